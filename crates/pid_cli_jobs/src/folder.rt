@@ -1,9 +1,10 @@
 //! The folder of a journal on the machine of the process.
-ghost use Rattle.std.specs.Prelude.{◌≤◌, IfOk, length};
+ghost use Rattle.std.specs.Prelude.{◌≡◌, ◌+◌, ◌≤◌, IfOk, MatchResult, length};
 
 use crate::journals::{Journals, ReportingFolder};
 use crate::lock::{Lock, take_lock};
 use crate::segment::HostSegment;
+use pid_cli_args::terminal::Progress;
 use pid_journal::JournalFolder;
 use pid_moderation::Refusal;
 use std::alloc::{AllocError, Global};
@@ -18,8 +19,9 @@ use std::{fs, io};
 pub struct HostFolder<'r> {
     rt: &'r HostRuntime,
     path: String,
-    // How many segments were opened to be written, or made, or should have been.
+    // How many files of segments were handed out.
     opened: u64,
+    progress: Progress<'r>,
     _lock: Lock,
 }
 
@@ -83,6 +85,7 @@ impl<'r> HostFolder<'r> {
             rt,
             path: String::from_str(rt.alloc(), path).ok()?,
             opened: 0,
+            progress: Progress::new(rt, "replaying the journal", rt.stderr().is_terminal()),
             _lock: take_lock(rt, path)?,
         })
     }
@@ -112,6 +115,32 @@ impl<'r> HostFolder<'r> {
         file.sync_all()?;
         sync_names(self.rt, self.path.as_str())?;
         Ok(file)
+    }
+
+    fn cut_file(&self, begin: u64, count: u64) -> io::Result<()> {
+        let file = self.open_file(begin, false)?;
+        let length = file.metadata()?.len();
+        file.set_len(length.saturating_sub(count))?;
+        file.sync_all()
+    }
+
+    // Hands out the file of a segment.
+    fn hand_out(&mut self, file: io::Result<File>) -> Result<HostSegment<'r>, Refusal>
+        ensures { MatchResult result (λ _. self.new.opened ≡ self.old.opened + 1)
+            (λ _. self.new.opened ≡ self.old.opened) }
+    {
+        let Some(opened) = self.opened.checked_add(1) else {
+            return Err(Refusal::Store);
+        };
+        let file = match file {
+            Ok(file) => file,
+            Err(error) => return Err(refusal_of(error)),
+        };
+        let Some(segment) = HostSegment::of(self.rt, file) else {
+            return Err(Refusal::Store);
+        };
+        self.opened = opened;
+        Ok(segment)
     }
 }
 
@@ -145,24 +174,33 @@ impl<'r> JournalFolder for HostFolder<'r> {
         }
     }
 
-    fn segment(&mut self, begin: u64) -> Result<HostSegment<'r>, Refusal> {
-        self.opened = self.opened.saturating_add(1);
-        match self.open_file(begin, false) {
-            Ok(file) => HostSegment::of(self.rt, file).ok_or(Refusal::Store),
+    fn replayed(&mut self) {
+        self.progress.count_line();
+    }
+
+    fn cut(&mut self, begin: u64, count: u64) -> Result<(), Refusal> {
+        match self.cut_file(begin, count) {
+            Ok(()) => Ok(()),
             Err(error) => Err(refusal_of(error)),
         }
     }
 
+    fn segment(&mut self, begin: u64) -> Result<HostSegment<'r>, Refusal> {
+        let file = self.open_file(begin, false);
+        self.hand_out(file)
+    }
+
     fn new_segment(&mut self, begin: u64) -> Result<HostSegment<'r>, Refusal> {
-        self.opened = self.opened.saturating_add(1);
-        match self.make_file(begin) {
-            Ok(file) => HostSegment::of(self.rt, file).ok_or(Refusal::Store),
-            Err(error) => Err(refusal_of(error)),
-        }
+        let file = self.make_file(begin);
+        self.hand_out(file)
     }
 }
 
 impl ReportingFolder for HostFolder<'_> {
+    fn end_replay(&mut self) {
+        self.progress.clear();
+    }
+
     fn report_gap(&mut self) {
         let mut faults = self.rt.stderr();
         let _ = write!(faults, "journal: gap\n");

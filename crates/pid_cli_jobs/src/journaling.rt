@@ -59,7 +59,9 @@ impl<D: Databases, G: Registries<D>, F: ReportingFolder> Registries<D> for Journ
         path: &str,
     ) -> Result<Journaled<G::Registry, F::Segment>, Unopened> {
         let registry = self.registries.open(databases, path)?;
-        match open_journal(databases.alloc(), registry, &mut self.folder, LONGEST) {
+        let opened = open_journal(databases.alloc(), registry, &mut self.folder, LONGEST);
+        self.folder.end_replay();
+        match opened {
             Ok(opened) => {
                 let Opened { registry, gap } = opened;
                 if gap {

@@ -1,9 +1,8 @@
 //! A segment of a journal as a file of the process.
-use pid_cli_args::terminal::Progress;
 use pid_ident::WriteFault;
 use pid_journal::JournalFile;
 use std::fs::File;
-use std::io::{IsTerminal, Write};
+use std::io::Write;
 use std::time::{SystemTime, UNIX_EPOCH};
 
 /// A segment, which is open for appending. What the file holds is in no clause.
@@ -15,7 +14,6 @@ pub struct HostSegment<'r> {
     length: u64,
     // A mark may have left a part of itself after them.
     is_torn: bool,
-    progress: Progress<'r>,
 }
 
 impl<'r> HostSegment<'r> {
@@ -27,7 +25,6 @@ impl<'r> HostSegment<'r> {
             file,
             length,
             is_torn: false,
-            progress: Progress::new(rt, "replaying the journal", rt.stderr().is_terminal()),
         })
     }
 }
@@ -52,12 +49,7 @@ impl JournalFile for HostSegment<'_> {
         self.length
     }
 
-    fn replayed(&mut self) {
-        self.progress.count_line();
-    }
-
     fn append(&mut self, bytes: &[u8]) -> Result<(), WriteFault> {
-        self.progress.clear();
         if self.is_torn {
             self.cut(self.length)?;
         }

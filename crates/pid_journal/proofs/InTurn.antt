@@ -1,6 +1,6 @@
 -- Segments in turn.
 use Rattle.std.proofs.Common.{◌≡◌, ◌⊎◌, inl, inr, ℕ, suc, ◌+◌, ◌<◌, ◌≤◌, Bool, true, false, List, [], ◌∷◌, ◌++◌, length, Option, Some, None, Result, Ok, Err, refl, sym, ap, subst, ◌∙◌, arith, append_assoc, append-nil}
-use Rattle.std.specs.Prelude.{IfOk, IfSome, IsSorted, MatchResult, ◌==◌, nat_lt, cond}
+use Rattle.std.specs.Prelude.{IfSome, IsSorted, MatchResult, ◌==◌, nat_lt, cond}
 use Rattle.std.specs.Ordering.{is_lt, nat_cmp}
 use Rattle.std.specs.declared.cmp.Ordering.TheVariants.{Less, Equal, Greater}
 use Rattle.std.proofs.lemmas.Bool.Decides.{nat_tests}
@@ -12,16 +12,17 @@ use Rattle.pid_moderation.specs.Views.{revision_of}
 use Rattle.pid_script.specs.Replies.{commands_of_lines, history_after}
 use Rattle.pid_service_laws.specs.Registries.{Showing}
 use Rattle.pid_service_laws.specs.declared.registry_calls.RegistryCalls.{Ghosts}
-use Rattle.pid_journal.specs.declared.file.JournalFile as files
 use Rattle.pid_journal.specs.declared.folder.JournalFolder as folders
 use Rattle.pid_journal.specs.declared.open_fault.OpenFault.{OpenFault}
 use Rattle.pid_journal.specs.declared.open_fault.OpenFault.TheVariants.{Newer}
-use Rattle.pid_journal.specs.Journals.{JournalLeads, lines_in}
+use Rattle.pid_journal.specs.declared.segment_text.SegmentText.{SegmentText}
+use Rattle.pid_journal.specs.Journals.{AreTrue, JournalLeads, lines_in}
 use Rattle.pid_journal.specs.Steps.Ways.{IsAlong, IsInSegments, IsOnWay}
 use Rattle.pid_journal.specs.Openings.{IsNewName, IsRefused, FollowsInTurn, StopsAtOne}
-use Rattle.pid_journal.specs.Steps.Opening.{ShowsAll}
-use Rattle.pid_journal.specs.Steps.Segments.{BeginsIn, EndsIn, EndsLast, FaultsAlong, FindsGap, FollowsAll, FollowsSegment, HasBegun, HasComeTo, HasComeToFirst, HasComeToLast, IsSameFolder, KeepsShown, LinesMayBeObeyed, MayBegin, NamesNew, PassesSegment, ShowsWithin, StaysQuiet, TellsRevision}
-use Rattle.pid_journal.proofs.Along.{along_all, segments_along, stops_as, stops_at, stops_after}
+use Rattle.pid_journal.specs.Steps.Places.{IsOpenEnd}
+use Rattle.pid_journal.specs.Steps.Reads.{EndsAll, EndsAt, held_of}
+use Rattle.pid_journal.specs.Steps.Segments.{EndsLast, FaultsAlong, FollowsAll, FollowsSegment, HasBegun, HasComeTo, HasComeToFirst, HasComeToLast, IsSameFolder, KeepsShown, LinesMayBeObeyed, PassesSegment, ShowsWithin, TellsRevision}
+use Rattle.pid_journal.proofs.Along.{along_all, segments_along, stops_as, stops_at}
 use Rattle.pid_journal.proofs.Appending.{history_both}
 use Rattle.pid_journal.proofs.Comparing.{last_same}
 use Rattle.pid_journal.proofs.ObeyedLines.{obeys_both}
@@ -116,7 +117,8 @@ pub record HasTurn {R : Type 0} (w : Showing R) (text : ℕ → List ℕ) (start
 pub record IsInTurn {R F J : Type 0} (w : Showing R) (folder : folders.Ghosts F J) (old now : R) (f g : F) (names : List ℕ) (name : ℕ) (rest : List ℕ) (moved : Bool) : Type 0 where
   pub same : IsSameFolder folder f g
   pub clean : w.is_clean now → w.is_clean old
-  pub kept : moved ≡ false → StaysQuiet w folder old now f g
+  pub quiet : folder.openings g ≡ folder.openings f
+  pub kept : moved ≡ false → KeepsShown w old now
   pub at : (front : List ℕ) × (names ≡ front ++ name ∷ rest)
   pub obeys : w.is_clean now → (all : List ℕ) → folder.names f ≡ Some all → (h : History) → w.shows old h → (m : History) × w.shows now m × FollowsInTurn (folder.text_in f) at.0 h m
   pub past : w.is_clean now → (h : History) → w.shows old h → HasBegun h names → (moved ≡ false) × w.shows now h
@@ -153,12 +155,16 @@ skip_begun w old new name next n told le late clean h shown = through name next 
 pub come_later : {R : Type 0} (w : Showing R) (old mid new : R) (name : ℕ) → (w.is_clean new → w.is_clean mid) → KeepsShown w old mid → HasComeTo w mid new name → HasComeTo w old new name
 come_later w old mid new name honest kept come clean h shown = come clean h (kept (honest clean) h shown)
 
+pub both_kept : {R : Type 0} (w : Showing R) (old now new : R) → (w.is_clean new → w.is_clean now) → KeepsShown w old now → KeepsShown w now new → KeepsShown w old new
+both_kept w old now new honest one two clean h shown = two clean h (one (honest clean) h shown)
+
 module _ {R F J : Type 0} (w : Showing R) (folder : folders.Ghosts F J) where
   pub first_turn : (r : R) (f : F) (names : List ℕ) (name : ℕ) (rest : List ℕ) → names ≡ name ∷ rest → IsInTurn w folder r r f f names name rest false
   first_turn r f names name rest is = record {
     same = (refl, refl);
     clean = λ clean. clean;
-    kept = λ off. ((λ clean h shown. shown), refl);
+    quiet = refl;
+    kept = λ off clean h shown. shown;
     at = ([], is);
     obeys = λ clean all known h shown. (h, shown, refl);
     past = λ clean h shown begun. (refl, shown);
@@ -186,23 +192,21 @@ module _ {R F J : Type 0} (w : Showing R) (folder : folders.Ghosts F J) where
         let one : first ≡ name = first_alone first name others rest turn.at.0 none (sym split ∙ turn.at.1) in
         let both : names ≡ name ∷ next ∷ later = turn.at.1 ∙ (λ i. none i ++ name ∷ is i) in
         let le : name ≤ next = first_two name next later (subst (λ (ns : List ℕ). IsSorted nat_cmp ns) both sorted) in
-        subst (λ (n : ℕ). n ≤ revision_of h) (sym one) (come le clean h ((turn.kept off).0 (honest clean) h shown))
+        subst (λ (n : ℕ). n ≤ revision_of h) (sym one) (come le clean h (turn.kept off (honest clean) h shown))
     | inr has ↦ has first others split (honest clean) h shown
   ]
 
-  pub both_quiet : (old now new : R) (f g k : F) → (w.is_clean new → w.is_clean now) → StaysQuiet w folder old now f g → StaysQuiet w folder now new g k → StaysQuiet w folder old new f k
-  both_quiet old now new f g k honest one two = ((λ clean h shown. two.0 clean h (one.0 (honest clean) h shown)), two.1 ∙ one.1)
-
   pub turns : (old now new : R) (f g k : F) (names : List ℕ) (name next : ℕ) (rest later : List ℕ) (moved obeyed next_moved : Bool) → IsInTurn w folder old now f g names name rest moved → rest ≡ next ∷ later
-      → IsSameFolder folder g k → (w.is_clean new → w.is_clean now) → (obeyed ≡ false → StaysQuiet w folder now new g k) → (next_moved ≡ false → (moved ≡ false) × (obeyed ≡ false)) → (moved ≡ false → obeyed ≡ false → next_moved ≡ false) → (w.is_clean new → (h : History) → w.shows now h → next ≤ revision_of h → (obeyed ≡ false) × w.shows new h)
+      → IsSameFolder folder g k → folder.openings k ≡ folder.openings g → (w.is_clean new → w.is_clean now) → (obeyed ≡ false → KeepsShown w now new) → (next_moved ≡ false → (moved ≡ false) × (obeyed ≡ false)) → (moved ≡ false → obeyed ≡ false → next_moved ≡ false) → (w.is_clean new → (h : History) → w.shows now h → next ≤ revision_of h → (obeyed ≡ false) × w.shows new h)
       → (name ≤ next → HasComeTo w now new name)
       → (w.is_clean new → (all : List ℕ) → folder.names g ≡ Some all → (h : History) → w.shows now h → (m : History) × w.shows new m × FollowsInTurn (folder.text_in g) (name ∷ []) h m)
       → (w.is_clean new → (all : List ℕ) → folder.names g ≡ Some all → Steps now new (folder.text_in g) name next later)
       → IsInTurn w folder old new f k names next later next_moved
-  turns old now new f g k names name next rest later moved obeyed next_moved turn is same honest kept both neither late come obeys steps = record {
+  turns old now new f g k names name next rest later moved obeyed next_moved turn is same quiet honest kept both neither late come obeys steps = record {
     same = (same.0 ∙ turn.same.0, same.1 ∙ turn.same.1);
+    quiet = quiet ∙ turn.quiet;
     clean = λ clean. turn.clean (honest clean);
-    kept = λ off. let offs = both off in both_quiet old now new f g k honest (turn.kept offs.0) (kept offs.1);
+    kept = λ off. let offs = both off in both_kept w old now new honest (turn.kept offs.0) (kept offs.1);
     at = (turn.at.0 ++ name ∷ [], next_at turn.at.0 names name next rest later turn.at.1 is);
     obeys = λ clean all known h shown.
         let far = turn.obeys (honest clean) all known h shown in
@@ -224,7 +228,7 @@ module _ {R F J : Type 0} (w : Showing R) (folder : folders.Ghosts F J) where
   first_at_end old now new f g names name rest moved turn honest come sorted first others split clean h shown = elim (turn.begun sorted) [
     | inl (none, off) ↦
         let one : first ≡ name = first_alone first name others rest turn.at.0 none (sym split ∙ turn.at.1) in
-        subst (λ (n : ℕ). n ≤ revision_of h) (sym one) (come off clean h ((turn.kept off).0 (honest clean) h shown))
+        subst (λ (n : ℕ). n ≤ revision_of h) (sym one) (come off clean h (turn.kept off (honest clean) h shown))
     | inr has ↦ has first others split (honest clean) h shown
   ]
 
@@ -246,6 +250,14 @@ none_first w r names none name later is = let no : ⊥ = cc in absurd no
 pub quiet_newer : {Q : Type 0} → LinesMayBeObeyed Newer ⊎ Q → Q
 quiet_newer (inl may) = absurd may
 quiet_newer (inr quiet) = quiet
+
+-- what a fault says of the lines that were obeyed
+pub stays_through : {R : Type 0} (w : Showing R) (old mid new : R) (moved : Bool) (fault given : OpenFault) → (moved ≡ false → KeepsShown w old mid) → (w.is_clean new → w.is_clean mid)
+    → LinesMayBeObeyed fault ⊎ KeepsShown w mid new → (moved ≡ true → LinesMayBeObeyed given) → LinesMayBeObeyed given ⊎ (given ≡ fault) → LinesMayBeObeyed given ⊎ KeepsShown w old new
+stays_through w old mid new true fault given kept honest stays moved same = inl (moved refl)
+stays_through w old mid new false fault given kept honest stays moved (inl says) = inl says
+stays_through w old mid new false fault given kept honest (inl says) moved (inr same) = inl (subst LinesMayBeObeyed (sym same) says)
+stays_through w old mid new false fault given kept honest (inr still) moved (inr same) = inr (both_kept w old mid new honest (kept refl) still)
 
 -- WHAT CALLS DO
 
@@ -269,7 +281,7 @@ pub none_new : (names : List ℕ) (name : ℕ) → names ≡ [] → IsNewName na
 none_new names name none [] last is = let both : [] ≡ last ∷ [] = sym none ∙ is in let no : ⊥ = cc in absurd no
 none_new names name none (x ∷ xs) last is = let both : [] ≡ x ∷ (xs ++ last ∷ []) = sym none ∙ is in let no : ⊥ = cc in absurd no
 
-differ : (a b : ℕ) → (a == b) ≡ false → a ≡ b → ⊥
+pub differ : (a b : ℕ) → (a == b) ≡ false → a ≡ b → ⊥
 differ a b off is = grind (arith, nat_tests, off, is)
 
 pub other_last : (names front rest : List ℕ) (last at name : ℕ) → (last == name) ≡ false → names ≡ front ++ last ∷ [] → names ≡ rest ++ at ∷ [] → at ≡ name → ⊥
@@ -278,40 +290,14 @@ other_last names front rest last at name off parts is same = differ last name of
 pub empty_leads : (h : History) → JournalLeads h [] h
 empty_leads h = record { whole = refl; told = tt; leads = refl }
 
-module _ {R J : Type 0} (registry : Ghosts R) (file : files.Ghosts J) where
+module _ {R : Type 0} (registry : Ghosts R) where
   -- all segments were obeyed
-  pub ends_shown : (text : ℕ → List ℕ) (start : History) (names : List ℕ) (new : R) (last : Option J) → EndsLast registry file text start names new last → registry.showing.shows new (history_after start (lines_in text names))
+  pub ends_shown : (text : ℕ → List ℕ) (start : History) (names : List ℕ) (new : R) (last : Option SegmentText) → EndsLast registry text start names new last → registry.showing.shows new (history_after start (lines_in text names))
   ends_shown text start names new None ends = subst (λ (ns : List ℕ). registry.showing.shows new (history_after start (lines_in text ns))) (sym ends.0) ends.1
-  ends_shown text start names new (Some k) ends =
-      subst (λ (h : History). registry.showing.shows new h) (sym (ap (λ (ns : List ℕ). history_after start (lines_in text ns)) ends.2 ∙ one_segment_more text start ends.0 ends.1)) ends.3.shown
+  ends_shown text start names new (Some k) ends = ends.3
 
-  last_grows : (text : ℕ → List ℕ) (front names : List ℕ) (name : ℕ) (kept : List ℕ) (more : List (List ℕ)) → names ≡ front ++ name ∷ [] → whole_lines kept ≡ whole_lines (text name) ++ more → lines_in text front ++ whole_lines kept ≡ lines_in text names ++ more
-  last_grows text front names name kept more last is =
-      ap (λ (ls : List (List ℕ)). lines_in text front ++ ls) is
-      ∙ sym (append_assoc (lines_in text front) (whole_lines (text name)) more)
-      ∙ ap (λ (ls : List (List ℕ)). ls ++ more) (ap (λ (ls : List (List ℕ)). lines_in text front ++ ls) (sym (append-nil (whole_lines (text name)))) ∙ sym (lines_both text front (name ∷ [])) ∙ ap (λ (ns : List ℕ). lines_in text ns) (sym last))
-
-  -- the journal goes on in the last one
-  pub ends_in : (text : ℕ → List ℕ) (start : History) (names : List ℕ) (after : Option (List ℕ)) (mid new : R) (k : J) → EndsLast registry file text start names mid (Some k) → registry.showing.shows new (history_after start (lines_in text names)) → after ≡ Some names → EndsIn registry file text start names after new k
-  ends_in text start names after mid new k ends shown same = record {
-    front = ends.0;
-    last = inr (ends.1, ends.2, same);
-    shown = shown;
-    kept = ends.3.front;
-    safe = ends.3.safe;
-    leads =
-        subst (λ (h : History). JournalLeads (history_after start (lines_in text ends.0)) ends.3.front h) (sym (ap (λ (ns : List ℕ). history_after start (lines_in text ns)) ends.2 ∙ one_segment_more text start ends.0 ends.1)) ends.3.leads;
-    more = ends.3.more;
-    grows = last_grows text ends.0 names ends.1 ends.3.front ends.3.more ends.2 ends.3.kept;
-  }
-
-  -- or in a new one
-  pub begins_in : (text : ℕ → List ℕ) (start : History) (names : List ℕ) (after : Option (List ℕ)) (new : R) (k : J) → file.safe k ≡ Some [] → registry.showing.shows new (history_after start (lines_in text names)) → NamesNew after names (history_after start (lines_in text names)) → IsNewName names (revision_of (history_after start (lines_in text names))) → EndsIn registry file text start names after new k
-  begins_in text start names after new k safe shown named is_new =
-      record { front = names; last = inl (refl, named, is_new); shown = shown; kept = []; safe = safe; leads = empty_leads (history_after start (lines_in text names)); more = []; grows = refl }
-
-  module _ {F : Type 0} (folder : folders.Ghosts F J) where
-    pub skip_passes : (old new : R) (f : F) (name next n : ℕ) (x : Bool) → KeepsShown registry.showing old new → TellsRevision registry.showing old new (Ok n) → next ≤ n → PassesSegment registry file folder old new f name next (Ok x)
+  module _ {F J : Type 0} (folder : folders.Ghosts F J) where
+    pub skip_passes : (old new : R) (f : F) (name next n : ℕ) (x : Bool) → KeepsShown registry.showing old new → TellsRevision registry.showing old new (Ok n) → next ≤ n → PassesSegment registry folder old new f name next (Ok x)
     skip_passes old new f name next n x kept told late clean names later known h marked shows =
         let shown = kept clean shows.shown shows.shows in
         record { shown = shows.shown; shows = shown; way = skipped (folder.text_in f) h shows.shown name next later marked shows.way (le_along next n (revision_of shows.shown) late (told clean shows.shown shows.shows)) }
@@ -321,22 +307,22 @@ module _ {R J : Type 0} (registry : Ghosts R) (file : files.Ghosts J) where
     way_of old mid f name next n later h clean kept told early shows =
         within (folder.text_in f) h shows.shown name next later shows.way (lt_along (revision_of shows.shown) n next (told clean shows.shown shows.shows) early)
 
-    pub follow_passes : (old mid new : R) (f : F) (name next n : ℕ) (k : J) (x : Bool) → (registry.showing.is_clean new → registry.showing.is_clean mid) → KeepsShown registry.showing old mid → TellsRevision registry.showing old mid (Ok n) → n < next
-        → FollowsSegment registry file folder mid new f name (Ok k) → PassesSegment registry file folder old new f name next (Ok x)
+    pub follow_passes : {X : Type 0} (old mid new : R) (f : F) (name next n : ℕ) (k : X) (x : Bool) → (registry.showing.is_clean new → registry.showing.is_clean mid) → KeepsShown registry.showing old mid → TellsRevision registry.showing old mid (Ok n) → n < next
+        → FollowsSegment registry folder mid new f name (Ok k) → PassesSegment registry folder old new f name next (Ok x)
     follow_passes old mid new f name next n k x honest kept told early follows clean names later known h marked shows =
         let there = kept (honest clean) shows.shown shows.shows in
         let all = follows clean names known h shows.shown marked shows.way.told.0 there (way_of old mid f name next n later h (honest clean) kept told early shows) in
-        record { shown = history_after h (whole_lines (folder.text_in f name)); shows = all.shown; way = at_next (folder.text_in f) h shows.shown name (next ∷ later) shows.way }
+        record { shown = history_after h (whole_lines (folder.text_in f name)); shows = all; way = at_next (folder.text_in f) h shows.shown name (next ∷ later) shows.way }
 
     pub fault_passes : (old mid new : R) (f : F) (name next n : ℕ) (fault given : OpenFault) → (registry.showing.is_clean new → registry.showing.is_clean mid) → KeepsShown registry.showing old mid → TellsRevision registry.showing old mid (Ok n) → n < next
-        → FollowsSegment registry file folder mid new f name (Err fault) → (IsRefused fault → IsRefused given) → PassesSegment registry file folder old new f name next (Err given)
+        → FollowsSegment registry folder {X = SegmentText} mid new f name (Err fault) → (IsRefused fault → IsRefused given) → PassesSegment registry folder old new f name next (Err given)
     fault_passes old mid new f name next n fault given honest kept told early follows says clean names later known h marked shows =
         let lines = whole_lines (folder.text_in f name) in
         let faults = follows clean names known h shows.shown marked shows.way.told.0 (kept (honest clean) shows.shown shows.shows) (way_of old mid f name next n later h (honest clean) kept told early shows) in
         (says faults.0, stops_as registry.showing new _ _ (λ g along. along_all h h g (lines_in (folder.text_in f) (name ∷ next ∷ later)) [] lines (lines_in (folder.text_in f) (next ∷ later)) refl refl along) faults.1)
 
     -- a fault before any line
-    pub none_passes : (old new : R) (f : F) (name next : ℕ) (fault : OpenFault) → IsRefused fault → KeepsShown registry.showing old new → PassesSegment registry file folder old new f name next (Err fault)
+    pub none_passes : (old new : R) (f : F) (name next : ℕ) (fault : OpenFault) → IsRefused fault → KeepsShown registry.showing old new → PassesSegment registry folder old new f name next (Err fault)
     none_passes old new f name next fault is kept clean names later known h marked shows =
         (is, stops_at registry.showing new _ shows.shown (kept clean shows.shown shows.shows) (segments_along (folder.text_in f) h shows.shown (name ∷ next ∷ later) shows.way))
 
@@ -365,16 +351,21 @@ module _ {R J : Type 0} (registry : Ghosts R) (file : files.Ghosts J) where
           (t.shows.shown, t.shows.shows, subst (λ (text : ℕ → List ℕ). IsOnWay h false (whole_lines (text name)) t.shows.shown) (sym turn.same.1) (within_last (folder.text_in f) h t.shows.shown name way)),
         )
 
-    pub ok_last : (old mid new : R) (f g : F) (names : List ℕ) (name : ℕ) (rest : List ℕ) (moved : Bool) (k : J) → IsInTurn registry.showing folder old mid f g names name rest moved → rest ≡ [] → (registry.showing.is_clean new → registry.showing.is_clean mid)
-        → FollowsSegment registry file folder mid new g name (Ok k) → FollowsAll registry file folder old new f names (Ok (Some k))
-    ok_last old mid new f g names name rest moved k turn none honest follows clean known start marked shows =
+    pub ok_last : (old mid new : R) (f g : F) (names : List ℕ) (name : ℕ) (rest : List ℕ) (moved : Bool) (k : SegmentText) → IsInTurn registry.showing folder old mid f g names name rest moved → rest ≡ [] → (registry.showing.is_clean new → registry.showing.is_clean mid)
+        → k.begin ≡ name → FollowsSegment registry folder mid new g name (Ok k) → FollowsAll registry folder old new f names (Ok (Some k))
+    ok_last old mid new f g names name rest moved k turn none honest at follows clean known start marked shows =
         let a = at_last old mid f g names name rest moved turn none (honest clean) known start marked shows in
         let h = history_after start (lines_in (folder.text_in f) a.0) in
         let all = follows clean names (turn.same.0 ∙ known) h a.4.0 a.2 a.3 a.4.1 a.4.2 in
-        (a.0, name, a.1, subst (λ (text : ℕ → List ℕ). ShowsAll registry file h (text name) new k) turn.same.1 all)
+        let end : history_after h (whole_lines (folder.text_in f name)) ≡ history_after start (lines_in (folder.text_in f) names) = sym (ap (λ (ns : List ℕ). history_after start (lines_in (folder.text_in f) ns)) a.1 ∙ one_segment_more (folder.text_in f) start a.0 name) in (
+          a.0,
+          a.1 ∙ ap (λ (n : ℕ). a.0 ++ n ∷ []) (sym at),
+          subst (λ (text : ℕ → List ℕ). AreTrue h false (whole_lines (text k.begin))) turn.same.1 (subst (λ (n : ℕ). AreTrue h false (whole_lines (folder.text_in g n))) (sym at) a.4.2.told),
+          subst (λ (x : History). registry.showing.shows new x) end (subst (λ (text : ℕ → List ℕ). registry.showing.shows new (history_after h (whole_lines (text name)))) turn.same.1 all),
+        )
 
     pub err_last : (old mid new : R) (f g : F) (names : List ℕ) (name : ℕ) (rest : List ℕ) (moved : Bool) (fault given : OpenFault) → IsInTurn registry.showing folder old mid f g names name rest moved → rest ≡ [] → (registry.showing.is_clean new → registry.showing.is_clean mid)
-        → FollowsSegment registry file folder mid new g name (Err fault) → (IsRefused fault → IsRefused given) → FollowsAll registry file folder old new f names (Err given)
+        → FollowsSegment registry folder {X = SegmentText} mid new g name (Err fault) → (IsRefused fault → IsRefused given) → FollowsAll registry folder old new f names (Err given)
     err_last old mid new f g names name rest moved fault given turn none honest follows says clean known start marked shows =
         let a = at_last old mid f g names name rest moved turn none (honest clean) known start marked shows in
         let h = history_after start (lines_in (folder.text_in f) a.0) in
@@ -387,7 +378,7 @@ module _ {R J : Type 0} (registry : Ghosts R) (file : files.Ghosts J) where
 
     -- a fault at a segment before the last
     pub err_between : (old mid new : R) (f g : F) (names : List ℕ) (name next : ℕ) (rest later : List ℕ) (moved : Bool) (fault given : OpenFault) → IsInTurn registry.showing folder old mid f g names name rest moved → rest ≡ next ∷ later
-        → (registry.showing.is_clean new → registry.showing.is_clean mid) → PassesSegment registry file folder mid new g name next (Err fault) → (IsRefused fault → IsRefused given) → FollowsAll registry file folder old new f names (Err given)
+        → (registry.showing.is_clean new → registry.showing.is_clean mid) → PassesSegment registry folder mid new g name next (Err fault) → (IsRefused fault → IsRefused given) → FollowsAll registry folder old new f names (Err given)
     err_between old mid new f g names name next rest later moved fault given turn is honest passes says clean known start marked shows =
         let t = turn.turn (honest clean) known start marked shows in
         let h = history_after start (lines_in (folder.text_in f) t.front) in
@@ -397,87 +388,37 @@ module _ {R J : Type 0} (registry : Ghosts R) (file : files.Ghosts J) where
         let parts = t.parts ∙ ap (λ (ns : List ℕ). t.front ++ name ∷ ns) is in
         (says faults.0, stops_as registry.showing new _ _ (λ g along. from_turn (folder.text_in f) start g names t.front name (next ∷ later) parts along) there)
 
-    -- what a fault says of the lines that were obeyed
-    pub stays_through : (old mid new : R) (f g k : F) (moved : Bool) (fault given : OpenFault) → (moved ≡ false → StaysQuiet registry.showing folder old mid f g) → (registry.showing.is_clean new → registry.showing.is_clean mid)
-        → LinesMayBeObeyed fault ⊎ StaysQuiet registry.showing folder mid new g k → (moved ≡ true → LinesMayBeObeyed given) → LinesMayBeObeyed given ⊎ (given ≡ fault) → LinesMayBeObeyed given ⊎ StaysQuiet registry.showing folder old new f k
-    stays_through old mid new f g k true fault given kept honest stays moved same = inl (moved refl)
-    stays_through old mid new f g k false fault given kept honest stays moved (inl says) = inl says
-    stays_through old mid new f g k false fault given kept honest (inl says) moved (inr same) = inl (subst LinesMayBeObeyed (sym same) says)
-    stays_through old mid new f g k false fault given kept honest (inr still) moved (inr same) = inr (both_quiet registry.showing folder old mid new f g k honest (kept refl) still)
-
     -- the last segment has begun, where the registry has more commands than it
     pub came : (old mid new : R) (f g : F) (names : List ℕ) (name : ℕ) (rest : List ℕ) (moved : Bool) (fault given : OpenFault) → IsInTurn registry.showing folder old mid f g names name rest moved → rest ≡ [] → (registry.showing.is_clean new → registry.showing.is_clean mid)
-        → given ≡ Newer → (moved ≡ true → LinesMayBeObeyed given) → (moved ≡ false → given ≡ fault) → LinesMayBeObeyed fault ⊎ HasComeTo registry.showing mid new name → HasComeToLast registry file folder old new names
+        → given ≡ Newer → (moved ≡ true → LinesMayBeObeyed given) → (moved ≡ false → given ≡ fault) → LinesMayBeObeyed fault ⊎ HasComeTo registry.showing mid new name → HasComeToLast registry.showing old new names
     came old mid new f g names name rest true fault given turn none honest newer moved same come front last is clean h shown = absurd (subst LinesMayBeObeyed newer (moved refl))
     came old mid new f g names name rest false fault given turn none honest newer moved same (inl may) front last is clean h shown = absurd (subst LinesMayBeObeyed (sym (same refl) ∙ newer) may)
     came old mid new f g names name rest false fault given turn none honest newer moved same (inr come) front last is clean h shown =
         let one : name ≡ last = last_same turn.at.0 front name last (sym (turn.at.1 ∙ ap (λ (ns : List ℕ). turn.at.0 ++ name ∷ ns) none) ∙ is) in
-        subst (λ (n : ℕ). n ≤ revision_of h) one (come clean h ((turn.kept refl).0 (honest clean) h shown))
+        subst (λ (n : ℕ). n ≤ revision_of h) one (come clean h (turn.kept refl (honest clean) h shown))
 
     -- there is no segment
-    pub none_follows : (r : R) (f : F) (names : List ℕ) → names ≡ [] → FollowsAll registry file folder r r f names (Ok None)
+    pub none_follows : (r : R) (f : F) (names : List ℕ) → names ≡ [] → FollowsAll registry folder r r f names (Ok None)
     none_follows r f names none clean known start marked shows =
         let way = subst (λ (ns : List ℕ). IsInSegments (folder.text_in f) start ns shows.shown) none shows.way in
         (none, subst (λ (h : History). registry.showing.shows r h) (sym (no_lines_left start shows.shown way.before way.later way.parts way.so_far)) shows.shows)
 
     -- the same of the folder as it was, and of the names as they were read
-    pub at_folder : (old mid : R) (f g : F) (names begins : List ℕ) (result : Result (Option J) OpenFault) → IsSameFolder folder f g → begins ≡ names → FollowsAll registry file folder old mid g begins result → FollowsAll registry file folder old mid f names result
+    pub at_folder : (old mid : R) (f g : F) (names begins : List ℕ) (result : Result (Option SegmentText) OpenFault) → IsSameFolder folder f g → begins ≡ names → FollowsAll registry folder old mid g begins result → FollowsAll registry folder old mid f names result
     at_folder old mid f g names begins result same is follows clean known start marked shows =
         let there = subst (λ (text : ℕ → List ℕ). ShowsWithin registry.showing text start begins old) (sym same.1) (subst (λ (ns : List ℕ). ShowsWithin registry.showing (folder.text_in f) start ns old) (sym is) shows) in
         let said = follows clean (same.0 ∙ known ∙ ap (λ (ns : List ℕ). Some ns) (sym is)) start marked there in
-        subst (λ (text : ℕ → List ℕ). MatchResult result (EndsLast registry file text start names mid) (FaultsAlong registry file start (lines_in text names) mid)) same.1
-        (subst (λ (ns : List ℕ). MatchResult result (EndsLast registry file (folder.text_in g) start ns mid) (FaultsAlong registry file start (lines_in (folder.text_in g) ns) mid)) is said)
+        subst (λ (text : ℕ → List ℕ). MatchResult result (EndsLast registry text start names mid) (FaultsAlong registry start (lines_in text names) mid)) same.1
+        (subst (λ (ns : List ℕ). MatchResult result (EndsLast registry (folder.text_in g) start ns mid) (FaultsAlong registry start (lines_in (folder.text_in g) ns) mid)) is said)
 
-    -- a fault after the last segment
-    pub fault_found : (old mid new : R) (f : F) (names : List ℕ) (last : Option J) (fault : OpenFault) → IsRefused fault → (registry.showing.is_clean new → registry.showing.is_clean mid) → KeepsShown registry.showing mid new → FollowsAll registry file folder old mid f names (Ok last)
-        → registry.showing.is_clean new → folder.names f ≡ Some names → (start : History) → IsMarked start → ShowsWithin registry.showing (folder.text_in f) start names old → FaultsAlong registry file start (lines_in (folder.text_in f) names) new fault
-    fault_found old mid new f names last fault is honest kept follows clean known start marked shows =
-        let ends = follows (honest clean) known start marked shows in
-        (is, stops_after registry.showing new start (lines_in (folder.text_in f) names) (kept clean _ (ends_shown (folder.text_in f) start names mid last ends)))
-
-    -- a journal that goes on after the last segment
-    pub found : (old mid new : R) (f g z : F) (names begins : List ℕ) (last : Option J) (k : J) → begins ≡ names → (registry.showing.is_clean new → registry.showing.is_clean mid) → FollowsAll registry file folder old mid f names (Ok last) → KeepsShown registry.showing mid new
-        → folder.names g ≡ folder.names f → ((last ≡ Some k) × (folder.names z ≡ folder.names g)) ⊎ (BeginsIn registry file folder mid new g z k × ((last ≡ None) ⊎ MayBegin registry.showing mid new begins))
-        → registry.showing.is_clean new → folder.names f ≡ Some names → (start : History) → IsMarked start → ShowsWithin registry.showing (folder.text_in f) start names old → EndsIn registry file (folder.text_in f) start names (folder.names z) new k
-    found old mid new f g z names begins last k read honest follows kept same (inl (is, stays)) clean known start marked shows =
-        let ends = follows (honest clean) known start marked shows in
-        let shown = kept clean (history_after start (lines_in (folder.text_in f) names)) (ends_shown (folder.text_in f) start names mid last ends) in
-        ends_in (folder.text_in f) start names (folder.names z) mid new k (subst (λ (l : Option J). EndsLast registry file (folder.text_in f) start names mid l) is ends) shown (stays ∙ same ∙ known)
-    found old mid new f g z names begins last k read honest follows kept same (inr (says, why)) clean known start marked shows =
-        let ends = follows (honest clean) known start marked shows in
-        let there = ends_shown (folder.text_in f) start names mid last ends in
-        let shown = kept clean (history_after start (lines_in (folder.text_in f) names)) there in
-        let b = says names (same ∙ known) in
-        begins_in (folder.text_in f) start names (folder.names z) new k b.0 shown (b.2 clean (history_after start (lines_in (folder.text_in f) names)) there)
-        (elim why [
-          | inl none ↦ none_new names _ (subst (λ (l : Option J). EndsLast registry file (folder.text_in f) start names mid l) none ends).0
-          | inr may ↦ subst (λ (ns : List ℕ). IsNewName ns (revision_of (history_after start (lines_in (folder.text_in f) names)))) read (may clean (history_after start (lines_in (folder.text_in f) names)) there)
-        ])
-
-    -- a new segment is named by the revision of the registry
-    pub begins_named : (old new : R) (f g : F) (n : ℕ) (k : J) → KeepsShown registry.showing old new → TellsRevision registry.showing old new (Ok n) → IfSome (folder.names f) (λ all. (file.safe k ≡ Some []) × (folder.names g ≡ Some (all ++ n ∷ []))) → BeginsIn registry file folder old new f g k
-    begins_named old new f g n k kept told made names known =
-        let says = subst (λ (o : Option (List ℕ)). IfSome o (λ all. (file.safe k ≡ Some []) × (folder.names g ≡ Some (all ++ n ∷ [])))) known made in
-        (says.0, kept, λ clean h shown. says.1 ∙ ap (λ (m : ℕ). Some (names ++ m ∷ [])) (told clean h shown))
-
-    pub begins_none : (old new : R) (f g : F) (result : Result J OpenFault) (last : Option J) (names : List ℕ) → last ≡ None → IfOk result (BeginsIn registry file folder old new f g)
-        → IfOk result (λ k. ((last ≡ Some k) × (folder.names g ≡ folder.names f)) ⊎ (BeginsIn registry file folder old new f g k × ((last ≡ None) ⊎ MayBegin registry.showing old new names)))
-    begins_none old new f g (Ok k) last names none begun = inr (begun, inl none)
-    begins_none old new f g (Err fault) last names none begun = tt
-
-    -- after the last one, where the registry was asked before
-    pub begins_later : (old mid new : R) (f g : F) (result : Result J OpenFault) (last : Option J) (names : List ℕ) → (registry.showing.is_clean new → registry.showing.is_clean mid) → KeepsShown registry.showing old mid → KeepsShown registry.showing mid new → MayBegin registry.showing old mid names → IfOk result (BeginsIn registry file folder mid new f g)
-        → IfOk result (λ k. ((last ≡ Some k) × (folder.names g ≡ folder.names f)) ⊎ (BeginsIn registry file folder old new f g k × ((last ≡ None) ⊎ MayBegin registry.showing old new names)))
-    begins_later old mid new f g (Ok k) last names honest kept still may begun = inr (
-      λ all known. let b = begun all known in (b.0, (λ clean h shown. b.1 clean h (kept (honest clean) h shown)), (λ clean h shown. b.2 clean h (kept (honest clean) h shown))),
-      inr (λ clean h shown. may (honest clean) h shown),
+    -- the text of the last one
+    pub ends_all : (old mid : R) (f g : F) (names : List ℕ) (name : ℕ) (rest : List ℕ) (moved : Bool) (k : SegmentText) → IsInTurn registry.showing folder old mid f g names name rest moved → rest ≡ [] → k.begin ≡ name → EndsAt folder g k → EndsAll folder f names (Some k)
+    ends_all old mid f g names name rest moved k turn none at ends = (
+      turn.at.0,
+      turn.at.1 ∙ (λ i. turn.at.0 ++ sym at i ∷ none i),
+      λ all known. subst (λ (text : ℕ → List ℕ). IsOpenEnd (text k.begin) (held_of k)) turn.same.1 (ends all (turn.same.0 ∙ known)),
     )
-    begins_later old mid new f g (Err fault) last names honest kept still may begun = tt
 
-    -- a gap before a new segment
-    pub gap_found : (old mid new : R) (f g z : F) (names : List ℕ) (k : J) → StaysQuiet registry.showing folder old mid f g → (registry.showing.is_clean new → registry.showing.is_clean mid) → folder.names g ≡ folder.names f → BeginsIn registry file folder mid new g z k
-        → ((all : List ℕ) → folder.names f ≡ Some all → names ≡ all) → HasComeToLast registry file folder old mid names → FindsGap registry file folder old new f z k
-    gap_found old mid new f g z names k quiet honest same begins read come = (
-      λ all known. let b = begins all (same ∙ known) in (b.0, (λ clean h shown. b.1 clean h (quiet.0 (honest clean) h shown)), (λ clean h shown. b.2 clean h (quiet.0 (honest clean) h shown))),
-      λ all known front name is clean h shown. come front name (read all known ∙ is) (honest clean) h shown,
-    )
+    pub ends_at : (f g : F) (names begins : List ℕ) (last : Option SegmentText) → IsSameFolder folder f g → begins ≡ names → EndsAll folder g begins last → EndsAll folder f names last
+    ends_at f g names begins None same read none = sym read ∙ none
+    ends_at f g names begins (Some k) same read (front, is, ends) = (front, sym read ∙ is, λ all known. subst (λ (text : ℕ → List ℕ). IsOpenEnd (text k.begin) (held_of k)) same.1 (ends all (same.0 ∙ known)))

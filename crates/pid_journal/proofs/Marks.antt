@@ -1,5 +1,5 @@
 -- Marks, and what may be cut off.
-use Rattle.std.proofs.Common.{◌≡◌, inl, inr, ℕ, suc, ◌+◌, ◌-◌, ◌≤◌, List, [], ◌∷◌, ◌++◌, length, map, Option, Some, None, Result, Ok, Err, refl, sym, ap, subst, ◌∙◌, arith, append_assoc, append-nil, length-append}
+use Rattle.std.proofs.Common.{◌≡◌, inl, inr, ℕ, suc, ◌+◌, ◌≤◌, List, [], ◌∷◌, ◌++◌, length, map, Option, Some, None, Result, Ok, Err, refl, sym, ap, subst, ◌∙◌, arith, append_assoc, append-nil, length-append}
 use Rattle.std.specs.Prelude.{IfSome, IsErr, IsErrAnd}
 use Rattle.pid_file.proofs.Cuts.{ended_line, ended_more, map_append, open_no_lf}
 use Rattle.pid_file.specs.Lines.{drop_cr}
@@ -14,7 +14,6 @@ use Rattle.pid_service_laws.specs.Outcomes.{IsMemoryOrStore}
 use Rattle.pid_service_laws.specs.Registries.{Showing}
 use Rattle.pid_journal.specs.declared.counts.Counts.{Counts}
 use Rattle.pid_journal.specs.Journals.{counts_said, IsEntry}
-use Rattle.pid_journal.specs.Steps.Opening.{IsWholeUpTo}
 use Rattle.pid_journal.specs.Pairs.{AddsEntry}
 use Rattle.pid_journal.specs.Steps.Parts.{CutsAfter, IsUnmarked, MayBeMarked}
 use Rattle.pid_journal.specs.Steps.Notes.{IsMark, MayBeAdded, counts_in}
@@ -44,33 +43,6 @@ at_least_two n = omega arith
 
 within_front : (above b front : List ℕ) (x y : ℕ) (count : ℕ) → front ≡ above ++ x ∷ y ∷ b → length front ≡ count → length above + 2 ≤ count
 within_front above b front x y count is counted = far_enough (length above) (length (x ∷ y ∷ b)) (length front) count (ap length is ∙ length-append above (x ∷ y ∷ b)) (at_least_two (length b)) counted
-
--- WHAT IS TORN
-
-torn_off : (above b front behind rest : List ℕ) (count : ℕ) → ended_pieces behind ≡ [] → front ≡ above ++ b → 10 ∷ 10 ∷ rest ≡ b ++ behind → length front ≡ count → length above + 2 ≤ count
-torn_off above [] front behind rest count torn is parts counted = absurd (has_lf [] (10 ∷ rest) (ap ended_pieces parts ∙ torn))
-torn_off above (x ∷ []) front behind rest count torn is parts counted = let same : 10 ∷ rest ≡ behind = cc in absurd (has_lf [] rest (ap ended_pieces same ∙ torn))
-torn_off above (x ∷ y ∷ b) front behind rest count torn is parts counted = within_front above b front x y count is counted
-
--- what comes after whole lines has no mark
-pub torn_within : (text : List ℕ) (count : ℕ) → IsWholeUpTo text count → MarksAreWithin text count
-torn_within text count up above rest is =
-    elim (in_parts above (10 ∷ 10 ∷ rest) up.front up.behind (sym is ∙ up.parts)) [
-      | inl (b, front, parts) ↦ torn_off above b up.front up.behind rest count up.torn front parts up.counted
-      | inr (l, longer, parts) ↦ absurd (has_lf l (10 ∷ rest) (sym (ap ended_pieces parts) ∙ up.torn))
-    ]
-
--- so many bytes are left before what is torn
-pub counted_within : (safe : Option (List ℕ)) (all torn count : ℕ) → IfSome safe (λ text. all ≡ length text) → IfSome safe (λ bytes. IsWholeUpTo bytes (length bytes - torn)) → count ≡ all - torn → IfSome safe (λ bytes. MarksAreWithin bytes count)
-counted_within None all torn count counted up is = tt
-counted_within (Some bytes) all torn count counted up is = subst (λ (n : ℕ). MarksAreWithin bytes n) (sym (is ∙ ap (λ (n : ℕ). n - torn) counted)) (torn_within bytes (length bytes - torn) up)
-
-pub known_at : (o : Option (List ℕ)) (text : List ℕ) (P : List ℕ → Type 0) → o ≡ Some text → IfSome o P → P text
-known_at o text P is says = subst (λ (x : Option (List ℕ)). IfSome x P) is says
-
--- and so many are cut off
-pub counted_cut : (safe : Option (List ℕ)) (text : List ℕ) (all torn count front : ℕ) → IfSome safe (λ bytes. all ≡ length bytes) → safe ≡ Some text → count ≡ all - torn → front ≡ length text - torn → front ≡ count
-counted_cut safe text all torn count front counted is cut left = left ∙ ap (λ (n : ℕ). n - torn) (sym (known_at safe text (λ bytes. all ≡ length bytes) is counted)) ∙ sym cut
 
 -- AN ENTRY
 

@@ -109,7 +109,7 @@ both_on : (a b : Bool) → (a && b) ≡ true → (a ≡ true) × (b ≡ true)
 both_on true b on = (refl, on)
 both_on false b on = let no : ⊥ = cc in absurd no
 
-nat_same : (a b : ℕ) → (a == b) ≡ true → a ≡ b
+pub nat_same : (a b : ℕ) → (a == b) ≡ true → a ≡ b
 nat_same a b on = grind (arith, nat_tests)
 
 -- the derived test of counts that are the same

@@ -1,15 +1,14 @@
 -- A segment that is read line by line.
-use Rattle.std.proofs.Common.{◌≡◌, ℕ, ◌+◌, ◌-◌, Vec, List, [], ◌∷◌, ◌++◌, length, take, drop, Option, Some, None, refl, sym, ap, subst, ◌∙◌, arith, append_assoc, append-nil, length-append, take-append-drop, drop_at}
-use Rattle.std.specs.Prelude.{IfSome, MatchOption, vec_len}
+use Rattle.std.proofs.Common.{◌≡◌, ℕ, ◌+◌, ◌-◌, Vec, List, [], ◌∷◌, ◌++◌, length, take, drop, Some, refl, sym, ap, subst, ◌∙◌, arith, append_assoc, append-nil, length-append, take-append-drop, drop_at}
+use Rattle.std.specs.Prelude.{vec_len}
 use Rattle.pid_file.proofs.Cuts.{still}
 use Rattle.pid_file.specs.WholeLines.{ended_pieces}
 use Rattle.pid_journal.specs.declared.folder.JournalFolder as folders
 use Rattle.pid_journal.specs.declared.segment_text.SegmentText.{SegmentText}
-use Rattle.pid_journal.specs.Steps.Opening.{IsWholeUpTo}
 use Rattle.pid_journal.specs.Steps.Places.{IsEndOf, IsOpenEnd}
-use Rattle.pid_journal.specs.Steps.Reads.{IsAllRead, IsLine, OfText, OnlyReads, left_in}
+use Rattle.pid_journal.specs.Steps.Reads.{EndsAt, IsAllRead, IsLine, OfText, OnlyReads, held_of, left_in}
 use Rattle.pid_journal.specs.Steps.Segments.{IsSameFolder}
-use Rattle.pid_journal.proofs.Resuming.{whole_up_to}
+use Rattle.pid_journal.proofs.Resuming.{open_joined}
 
 -- THE BYTES THAT ARE HELD
 
@@ -32,11 +31,18 @@ held_behind held front behind taken is =
 
 -- THE END
 
--- what is left is no whole line, and so long
-pub left_up_to : (text : List ℕ) (t u : SegmentText) (torn : ℕ) → IsEndOf text (left_in t text) → IsOpenEnd (left_in t text) (left_in u text) → drop u.read text ≡ [] → torn ≡ length (drop u.taken u.held.items) → IsWholeUpTo text (length text - torn)
-left_up_to text t u torn end torn_end read is =
-    let count : length (left_in u text) ≡ torn = ap length (ap (λ (l : List ℕ). drop u.taken u.held.items ++ l) read ∙ append-nil (drop u.taken u.held.items)) ∙ sym is in
-    subst (λ (n : ℕ). IsWholeUpTo text (length text - n)) count (whole_up_to text (left_in t text) (left_in u text) end torn_end)
+-- what is left of a text of which all was read is held, after lines that were taken
+pub ends_held : (all : List ℕ) (t u : SegmentText) → IsEndOf all (left_in t all) → IsOpenEnd (left_in t all) (left_in u all) × (drop u.read all ≡ []) → IsOpenEnd all (held_of u)
+ends_held all t u one two =
+    let end = two.0.end in
+    subst (λ (l : List ℕ). IsOpenEnd all l) (ap (λ (l : List ℕ). held_of u ++ l) two.1 ∙ append-nil (held_of u)) (record {
+      end = record {
+        front = one.front ++ end.front;
+        parts = one.parts ∙ ap (λ (l : List ℕ). one.front ++ l) end.parts ∙ sym (append_assoc one.front end.front (left_in u all));
+        whole = open_joined one.front end.front one.whole end.whole;
+      };
+      torn = two.0.torn;
+    })
 
 -- what is left of a text of which all was read
 pub open_end : (t u : SegmentText) (all text : List ℕ) → IsEndOf text (left_in t all) → IsAllRead t u all → IsOpenEnd text (left_in u all)
@@ -132,19 +138,7 @@ module _ {F J : Type 0} (folder : folders.Ghosts F J) where
         all = all;
       }
 
-  -- the same of a file, if its text is known
-  pub left_torn : (f : F) (t u : SegmentText) (old now : Option (List ℕ)) (torn : ℕ) → now ≡ old → IfSome old (λ bytes. (names : List ℕ) × (folder.names f ≡ Some names) × (folder.text_in f t.begin ≡ bytes))
-      → OfText folder f t (λ all. IsEndOf all (left_in t all)) → OfText folder f t (λ all. IsOpenEnd (left_in t all) (left_in u all) × (drop u.read all ≡ [])) → torn ≡ length (drop u.taken u.held.items)
-      → IfSome now (λ bytes. IsWholeUpTo bytes (length bytes - torn))
-  left_torn f t u old now torn same known end ended is = subst (λ (o : Option (List ℕ)). IfSome o (λ bytes. IsWholeUpTo bytes (length bytes - torn))) (sym same) (of_old old known)
-    where
-      of_old : (o : Option (List ℕ)) → IfSome o (λ bytes. (names : List ℕ) × (folder.names f ≡ Some names) × (folder.text_in f t.begin ≡ bytes)) → IfSome o (λ bytes. IsWholeUpTo bytes (length bytes - torn))
-      of_old None said = tt
-      of_old (Some bytes) (names, there, reads) =
-          let far = ended names there in
-          subst (λ (l : List ℕ). IsWholeUpTo l (length l - torn)) reads (left_up_to (folder.text_in f t.begin) t u torn (end names there) far.0 far.1 is)
-
--- what was opened is known
-pub known_opened : (o p safe : Option (List ℕ)) (there here : List ℕ) → p ≡ o → MatchOption o (safe ≡ None) (λ all. safe ≡ Some there) → here ≡ there → IfSome safe (λ bytes. (names : List ℕ) × (p ≡ Some names) × (here ≡ bytes))
-known_opened None p safe there here same opened is = subst (λ (s : Option (List ℕ)). IfSome s (λ bytes. (names : List ℕ) × (p ≡ Some names) × (here ≡ bytes))) (sym opened) tt
-known_opened (Some all) p safe there here same opened is = subst (λ (s : Option (List ℕ)). IfSome s (λ bytes. (names : List ℕ) × (p ≡ Some names) × (here ≡ bytes))) (sym opened) (all, same, is)
+  -- the end of a segment that was read
+  pub ends_read : (f : F) (t u : SegmentText) (begin : ℕ) → u.begin ≡ begin → ((names : List ℕ) → folder.names f ≡ Some names → IsEndOf (folder.text_in f begin) (left_in t (folder.text_in f begin)))
+      → ((names : List ℕ) → folder.names f ≡ Some names → IsOpenEnd (left_in t (folder.text_in f begin)) (left_in u (folder.text_in f begin)) × (drop u.read (folder.text_in f begin) ≡ [])) → EndsAt folder f u
+  ends_read f t u begin is one two names known = subst (λ (n : ℕ). IsOpenEnd (folder.text_in f n) (held_of u)) (sym is) (ends_held (folder.text_in f begin) t u (one names known) (two names known))

@@ -20,7 +20,7 @@ use Rattle.pid_journal.specs.declared.open_fault.OpenFault.{OpenFault}
 use Rattle.pid_journal.specs.declared.open_fault.OpenFault.TheVariants.{Refused, Another, Newer}
 use Rattle.pid_journal.specs.declared.opened.Opened.{Opened}
 use Rattle.pid_journal.specs.Journals.{counts_held, counts_said, IsOnSegments, lines_in}
-use Rattle.pid_journal.specs.Pairs.{PairShows}
+use Rattle.pid_journal.specs.Pairs.{AddsMark, PairShows}
 
 -- a fault of memory, of the registry, or of a file
 abbrev pub IsRefused : OpenFault → Type 0
@@ -93,16 +93,12 @@ registry_left (Err back) = back.0
 -- `registry` is `R.RegistryCalls`, `folder` is `F.JournalFolder`, and `file` that of its segments
 module _ {R F J : Type 0} (registry : Ghosts R) (folder : folders.Ghosts F J) (file : files.Ghosts J) where
   -- The registry shows the history of all lines. The journal goes on in the last segment, or in a new
-  -- one after it, named by the revision at which it begins; it has all lines that it had, and maybe a mark.
+  -- one, which is named by the revision at which it begins.
   pub record GoesOn (text : ℕ → List ℕ) (start : History) (names : List ℕ) (g : F) (p : Journaled R J) : Type 0 where
-    pub front : List ℕ
-    pub last : ((names ≡ front) × IsNewName names (revision_of (history_after start (lines_in text names))))
-        ⊎ (folder.names g ≡ Some names)
-    pub named : folder.names g ≡ Some (front ++ revision_of (history_after start (lines_in text front)) ∷ [])
-    pub shows : PairShows registry file (history_after start (lines_in text front)) p
-        (history_after start (lines_in text names))
-    pub more : List (List ℕ)
-    pub grows : lines_in text front ++ whole_lines shows.text ≡ lines_in text names ++ more
+    pub last : (folder.names g ≡ Some names) ⊎ (IsNewName names (revision_of (history_after start (lines_in text names)))
+        × (folder.names g ≡ Some (names ++ revision_of (history_after start (lines_in text names)) ∷ [])))
+    pub shows : (front : List ℕ) (name : ℕ) → folder.names g ≡ Some (front ++ name ∷ []) → PairShows registry file
+        (history_after start (lines_in text front)) p (history_after start (lines_in text names))
 
   -- If the names of the segments are known, of a registry that shows a history:
   pub record Resumes (f g : F) (names : List ℕ) (h : History) (end : Result (Opened R J) (R × OpenFault)) : Type 0 where
@@ -133,9 +129,17 @@ module _ {R F J : Type 0} (registry : Ghosts R) (folder : folders.Ghosts F J) (f
   pub record OpensJournal (r : R) (f g : F) (result : Result (Opened R J) (R × OpenFault)) : Type 0 where
     -- a disk that has returned what was written up to the end has done so up to the beginning
     pub honest : StaysClean registry.showing r (registry_left result)
-    -- with another's journal the registry shows what it showed, and no file was opened to be written
+    -- each whole line of each segment stays
+    pub keeps : (names : List ℕ) → folder.names f ≡ Some names → (name : ℕ)
+        → whole_lines (folder.text_in g name) ≡ whole_lines (folder.text_in f name)
+    -- The file that goes on is the only one that was handed out: that of the last segment. To it a mark may come.
+    pub hands : MatchResult result (λ o. (folder.openings g ≡ folder.openings f + 1)
+        × ((names : List ℕ) → folder.names f ≡ Some names → (front : List ℕ) × (name : ℕ)
+        × (folder.names g ≡ Some (front ++ name ∷ [])) × AddsMark (folder.text_in g name) (file.safe o.registry.journal)))
+        (λ back. folder.openings g ≡ folder.openings f)
+    -- with another's journal the registry shows what it showed, and nothing is cut off
     pub others : IfErr result (λ back. (back.1 ≡ Another) ⊎ (back.1 ≡ Newer)
         → (registry.showing.is_clean back.0 → (h : History) → registry.showing.shows r h
-        → registry.showing.shows back.0 h) × (folder.openings g ≡ folder.openings f))
+        → registry.showing.shows back.0 h) × (folder.text_in g ≡ folder.text_in f))
     pub resumes : registry.showing.is_clean (registry_left result) → (names : List ℕ) → folder.names f ≡ Some names
         → (h : History) → registry.showing.shows r h → Resumes f g names h result

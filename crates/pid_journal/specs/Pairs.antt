@@ -60,3 +60,8 @@ AddsEntry old now c result = (text : List ℕ) → old ≡ Some text → (now �
     ⊎ ((entry : List ℕ) × (counts : Counts) × IsEntry entry counts c × ((now ≡ Some (text ++ entry))
     ⊎ (((mark : List ℕ) × (held : Counts) × IsNote mark held [] × (now ≡ Some (text ++ entry ++ mark)))
     ⊎ (IsErr result × LeavesPart now text entry))))
+
+-- To what is there a mark may come, and nothing else.
+abbrev pub AddsMark : List ℕ → Option (List ℕ) → Type 0
+AddsMark text now = (mark : List ℕ) × (now ≡ Some (text ++ mark))
+    × ((mark ≡ []) ⊎ ((counts : Counts) × IsNote mark counts []))

@@ -7,6 +7,6 @@ pub mod Lending
 pub mod Places
 pub mod Comparing
 pub mod Following
-pub mod Opening
 pub mod Segments
 pub mod Reads
+pub mod Reopening

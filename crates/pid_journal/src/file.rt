@@ -28,10 +28,6 @@ pub trait JournalFile {
     fn count(&self) -> u64
         ensures { IfSome (safe self.now) (λ text. result ≡ length text) };
 
-    /// Called after each line that an opening obeys, so that a program can say how far it is.
-    fn replayed(&mut self)
-        ensures { safe self.new ≡ safe self.old };
-
     /// Writes bytes to the end of the file and syncs it. After a fault any prefix of them may be
     /// there.
     fn append(&mut self, bytes: &[u8]) -> Result<(), WriteFault>

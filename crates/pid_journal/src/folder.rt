@@ -1,6 +1,7 @@
 //! The folder of a journal.
 ghost use Rattle.std.specs.Prelude.{
   ◌≡◌,
+  ◌≢◌,
   ◌+◌,
   ◌<◌,
   ◌≤◌,
@@ -10,15 +11,19 @@ ghost use Rattle.std.specs.Prelude.{
   ℕ,
   List,
   Option,
+  Some,
+  None,
   IfOk,
   IfSome,
   IsSorted,
   MatchOption,
+  MatchResult,
   drop,
   length,
   take,
 };
 ghost use Rattle.std.specs.Ordering.{nat_cmp};
+ghost use Rattle.pid_journal.specs.Doubts.{LeavesPart};
 
 use crate::file::JournalFile;
 use pid_moderation::Refusal;
@@ -32,12 +37,12 @@ pub trait JournalFolder {
     /// The names of its segments, in ascending order, if they are known.
     ghost names: { Self → Option (List ℕ) };
 
-    /// The bytes that are safe in the segment of a name, where the names are known.
+    /// The bytes that are safe in the segment of a name, where the names are known; none, if there
+    /// is no such segment. What is written to a segment once it is open is not seen here.
     ghost text_in: { Self → ℕ → List ℕ };
 
-    /// How many of its segments were opened to be written, or made: what is not opened is not
-    /// written. Only the calls that open or make one change it.
-    ghost openings: { Self → ℕ } = { λ folder. 0 };
+    /// How many files of its segments were handed out, which alone can be written.
+    ghost openings: { Self → ℕ };
 
     /// The revisions at which its segments begin, in ascending order. `Memory` or `Store` if they
     /// cannot be read.
@@ -59,15 +64,37 @@ pub trait JournalFolder {
         ensures end { IfOk result (λ n. n ≡ 0 → 0 < length buffer.new
             → IfSome (names self.old) (λ all. drop after (text_in self.old begin) ≡ [])) };
 
+    /// Called after each line that an opening obeys, so that a program can say how far it is.
+    fn replayed(&mut self)
+        ensures same { (names self.new ≡ names self.old) × (text_in self.new ≡ text_in self.old) }
+        ensures unopened { openings self.new ≡ openings self.old };
+
+    /// Cuts off so many bytes at the end of the segment that begins at a revision, and syncs it. After
+    /// a fault any prefix of them may still be there.
+    fn cut(&mut self, begin: u64, count: u64) -> Result<(), Refusal>
+        ensures same { names self.new ≡ names self.old }
+        ensures unopened { openings self.new ≡ openings self.old }
+        ensures others { IfSome (names self.old) (λ all. (name : ℕ) → name ≢ begin
+            → text_in self.new name ≡ text_in self.old name) }
+        ensures cut { IfSome (names self.old) (λ all. (front behind : List ℕ)
+            → text_in self.old begin ≡ front ++ behind → length behind ≡ count
+            → MatchResult result (λ _. text_in self.new begin ≡ front)
+            (λ _. LeavesPart (Some (text_in self.new begin)) front behind)) };
+
     /// Opens the segment that begins at a revision, to be written.
     fn segment(&mut self, begin: u64) -> Result<Self::Segment, Refusal>
         ensures same { (names self.new ≡ names self.old) × (text_in self.new ≡ text_in self.old) }
         ensures opened { IfOk result (λ file. MatchOption (names self.old)
             (Self.Segment.safe file ≡ None)
-            (λ all. Self.Segment.safe file ≡ Some (text_in self.old begin))) };
+            (λ all. Self.Segment.safe file ≡ Some (text_in self.old begin))) }
+        ensures handed { MatchResult result (λ _. openings self.new ≡ openings self.old + 1)
+            (λ _. openings self.new ≡ openings self.old) };
 
     /// Makes an empty segment that begins at a revision, where none does yet. Its name is synced.
     fn new_segment(&mut self, begin: u64) -> Result<Self::Segment, Refusal>
-        ensures { IfOk result (λ file. IfSome (names self.old)
-            (λ all. (Self.Segment.safe file ≡ Some []) × (names self.new ≡ Some (all ++ begin ∷ [])))) };
+        ensures same { text_in self.new ≡ text_in self.old }
+        ensures made { IfOk result (λ file. IfSome (names self.old) (λ all. (Self.Segment.safe file ≡ Some [])
+            × (text_in self.old begin ≡ []) × (names self.new ≡ Some (all ++ begin ∷ [])))) }
+        ensures handed { MatchResult result (λ _. openings self.new ≡ openings self.old + 1)
+            (λ _. openings self.new ≡ openings self.old) };
 }

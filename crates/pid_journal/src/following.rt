@@ -6,7 +6,6 @@ ghost use Rattle.pid_journal.specs.Steps.Following.{FollowsLine, FollowsLines};
 ghost use Rattle.pid_journal.specs.Steps.Places.{IsOpenEnd};
 ghost use Rattle.pid_journal.specs.Steps.Reads.{OfText, OnlyReads, left_in};
 
-use crate::file::JournalFile;
 use crate::folder::JournalFolder;
 use crate::segment_text::SegmentText;
 use pid_moderation::Refusal;
@@ -54,16 +53,14 @@ fn follow_line<R: RegistryCalls>(
     }
 }
 
-/// Obeys the commands of the whole lines that are left of a segment. The file of the journal hears
-/// of each.
+/// Obeys the commands of the whole lines that are left of a segment. The folder of the journal
+/// hears of each.
 pub fn follow<R: RegistryCalls, F: JournalFolder>(
     alloc: Global,
     registry: &mut R,
     folder: &mut F,
-    journal: &mut F::Segment,
     text: &mut SegmentText,
 ) -> Result<(), Refusal>
-    ensures same { F.Segment.JournalFile.safe journal.new ≡ F.Segment.JournalFile.safe journal.old }
     ensures honest { StaysClean R.showing registry.old registry.new }
     ensures reads { OnlyReads F.JournalFolder folder.old folder.new text.old text.new }
     ensures ended { IfOk result (λ x. OfText F.JournalFolder folder.old text.old (λ all.
@@ -83,7 +80,7 @@ pub fn follow<R: RegistryCalls, F: JournalFolder>(
         if let Err(refusal) = follow_line(alloc, registry, without_cr(&line)) {
             return Err(refusal);
         }
-        journal.replayed();
+        folder.replayed();
     }
     Err(Refusal::Store)
 }

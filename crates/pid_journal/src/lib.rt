@@ -33,6 +33,7 @@ mod opening;
 mod placing;
 mod registry_calls;
 mod registry_queries;
+mod reopening;
 mod sameness;
 mod segment_text;
 mod segments;

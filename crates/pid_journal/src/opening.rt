@@ -3,21 +3,21 @@ ghost use Rattle.std.specs.Prelude.{◌≡◌, ℕ, List, Some, false, true, IfO
 ghost use Rattle.pid_service_laws.specs.CallLaws.{StaysClean};
 ghost use Rattle.pid_journal.specs.Openings.{IsNewName, OpensJournal};
 ghost use Rattle.pid_journal.specs.Steps.Comparing.{ComparesGap, ObeysSome};
-ghost use Rattle.pid_journal.specs.Steps.Segments.{
-  AsksOn,
+ghost use Rattle.pid_journal.specs.Steps.Reopening.{
   BeginsSegment,
   FindsGap,
   FindsJournal,
   FindsNext,
-  HasComeToFirst,
-  StaysOrMoved,
+  LeavesFolder,
 };
+ghost use Rattle.pid_journal.specs.Steps.Segments.{AsksOn, HasComeToFirst};
 
-use crate::file::JournalFile;
 use crate::folder::JournalFolder;
 use crate::journaled::Journaled;
 use crate::open_fault::OpenFault;
 use crate::opened::Opened;
+use crate::reopening::{cut_torn, reopen};
+use crate::segment_text::SegmentText;
 use crate::segments::{follow_all, revision_of};
 use pid_service_laws::RegistryQueries;
 use std::alloc::Global;
@@ -27,7 +27,7 @@ fn begin_segment<R: RegistryQueries, F: JournalFolder>(
     registry: &mut R,
     folder: &mut F,
 ) -> Result<F::Segment, OpenFault>
-    ensures { BeginsSegment R.RegistryCalls F.Segment.JournalFile F.JournalFolder registry.old
+    ensures { BeginsSegment R.RegistryCalls F.JournalFolder F.Segment.JournalFile registry.old
         registry.new folder.old folder.new result }
 {
     let revision = match revision_of(registry) {
@@ -51,16 +51,16 @@ fn is_last(names: &[u64], name: u64) -> bool
 }
 
 // Whether a journal goes on in its last segment. One that is longer than so many bytes ends, but not
-// where the next one would have its name.
-fn goes_on<R: RegistryQueries, J: JournalFile>(
+// where its last command has no mark yet, nor where the next one would have its name.
+fn goes_on<R: RegistryQueries>(
     registry: &mut R,
-    segment: &J,
+    text: &SegmentText,
     begins: &[u64],
     longest: u64,
 ) -> Result<bool, OpenFault>
     ensures { AsksOn R.showing registry.old registry.new begins.now result }
 {
-    if segment.count() <= longest {
+    if text.read() <= longest || !text.is_marked() {
         return Ok(true);
     }
     match revision_of(registry) {
@@ -69,22 +69,27 @@ fn goes_on<R: RegistryQueries, J: JournalFile>(
     }
 }
 
-// The segment in which a journal goes on after the last one that it has.
+// The segment in which a journal goes on, of which this is the last one that it has.
 fn segment_after<R: RegistryQueries, F: JournalFolder>(
+    alloc: Global,
     registry: &mut R,
     folder: &mut F,
-    last: Option<F::Segment>,
+    last: Option<SegmentText>,
     begins: &[u64],
     longest: u64,
 ) -> Result<F::Segment, OpenFault>
-    ensures { FindsNext R.RegistryCalls F.Segment.JournalFile F.JournalFolder registry.old
+    ensures { FindsNext R.RegistryCalls F.JournalFolder F.Segment.JournalFile registry.old
         registry.new folder.old folder.new last begins.now result }
 {
-    let Some(segment) = last else {
+    let Some(text) = last else {
         return begin_segment(registry, folder);
     };
-    match goes_on(registry, &segment, begins, longest) {
-        Ok(true) => Ok(segment),
+    match cut_torn(folder, &text) {
+        Ok(()) => {}
+        Err(fault) => return Err(fault),
+    }
+    match goes_on(registry, &text, begins, longest) {
+        Ok(true) => reopen(alloc, registry, folder, &text),
         Ok(false) => begin_segment(registry, folder),
         Err(fault) => Err(fault),
     }
@@ -99,12 +104,12 @@ fn find_segment<R: RegistryQueries, F: JournalFolder>(
     longest: u64,
 ) -> Result<(F::Segment, bool), OpenFault>
     ensures honest { StaysClean R.showing registry.old registry.new }
-    ensures found { FindsJournal R.RegistryCalls F.Segment.JournalFile F.JournalFolder registry.old
+    ensures found { FindsJournal R.RegistryCalls F.JournalFolder F.Segment.JournalFile registry.old
         registry.new folder.old folder.new result }
-    ensures gap { IfOk result (λ found. found.1 ≡ true → FindsGap R.RegistryCalls
-        F.Segment.JournalFile F.JournalFolder registry.old registry.new folder.old folder.new found.0) }
-    ensures stays { StaysOrMoved R.showing F.JournalFolder registry.old registry.new folder.old
-        folder.new result }
+    ensures gap { IfOk result (λ found. found.1 ≡ true → FindsGap R.RegistryCalls F.JournalFolder
+        F.Segment.JournalFile registry.old registry.new folder.old folder.new found.0) }
+    ensures leaves { LeavesFolder R.RegistryCalls F.JournalFolder F.Segment.JournalFile registry.old
+        registry.new folder.old folder.new result }
     ensures obeys { (names : List ℕ) → F.names folder.old ≡ Some names → ObeysSome R.showing
         F.JournalFolder registry.old registry.new folder.old names result }
     ensures compared { ComparesGap R.showing F.JournalFolder registry.old registry.new folder.old
@@ -126,7 +131,7 @@ fn find_segment<R: RegistryQueries, F: JournalFolder>(
         }
         Err(fault) => return Err(fault),
     };
-    match segment_after(registry, folder, last, begins.as_slice(), longest) {
+    match segment_after(alloc, registry, folder, last, begins.as_slice(), longest) {
         Ok(segment) => Ok((segment, false)),
         Err(fault) => Err(fault),
     }
@@ -135,14 +140,14 @@ fn find_segment<R: RegistryQueries, F: JournalFolder>(
 /// Puts the journal of a folder in front of its registry: one that shows the history to which the
 /// journal leads, or an earlier one on the way there. It obeys the lines that it does not have. So
 /// a command that was in doubt comes to its end, and a registry that was restored from a copy has
-/// every command of its journal again. A last line that is not whole is cut off.
+/// every command of its journal again. A last line that is not whole is cut off. Every other line
+/// stays, and only the segment in which the journal goes on is opened to be written.
 ///
 /// - A folder without a segment gets one, which begins where the registry stands.
 /// - If the last segment has more bytes than `longest`, a new one begins after it, unless no command
-///   was accepted in it.
+///   was accepted in it, or its last command has no mark.
 /// - If the registry has commands that the journal has not, a new segment begins, after a gap.
-/// - If the journal is another registry's, the registry stays as it is, and no file is opened to be
-///   written.
+/// - If the journal is another registry's, the registry and all segments stay as they are.
 ///
 /// The registry is handed back with a fault.
 pub fn open_journal<R: RegistryQueries, F: JournalFolder>(

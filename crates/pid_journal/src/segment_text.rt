@@ -75,6 +75,18 @@ impl SegmentText {
         }
     }
 
+    /// The revision at which it begins.
+    pub fn begin(&self) -> u64
+        ensures { result ≡ self.now.begin }
+    {
+        self.begin
+    }
+
+    /// How many bytes of it were read.
+    pub fn read(&self) -> u64 {
+        self.read
+    }
+
     /// Whether the last line that was taken is empty, or none was taken.
     pub fn is_marked(&self) -> bool {
         self.is_marked

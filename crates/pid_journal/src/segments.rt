@@ -17,20 +17,22 @@ ghost use Rattle.std.specs.Prelude.{
 ghost use Rattle.std.specs.Ordering.{nat_cmp};
 ghost use Rattle.pid_journal.specs.Openings.{IsRefused};
 ghost use Rattle.pid_journal.specs.Steps.Comparing.{BringsOn, ComparesAll, SkipsLate};
+ghost use Rattle.pid_journal.specs.Steps.Reads.{EndsAll};
 ghost use Rattle.pid_journal.specs.Steps.Segments.{
   AsksRevision,
   FollowsAll,
   HasComeTo,
   HasComeToFirst,
   HasComeToLast,
+  KeepsShown,
   LinesMayBeObeyed,
   PassesSegment,
-  StaysQuiet,
 };
 
 use crate::catching_up::follow_segment;
 use crate::folder::JournalFolder;
 use crate::open_fault::OpenFault;
+use crate::segment_text::SegmentText;
 use pid_service_laws::RegistryQueries;
 use std::alloc::Global;
 
@@ -90,10 +92,10 @@ fn pass_segment<R: RegistryQueries, F: JournalFolder>(
 ) -> Result<bool, OpenFault>
     ensures brings { BringsOn R.showing F.JournalFolder registry.old registry.new folder.old
         folder.new (begin ∷ []) result }
-    ensures passed { PassesSegment R.RegistryCalls F.Segment.JournalFile F.JournalFolder
-        registry.old registry.new folder.old begin next result }
-    ensures still { IfOk result (λ moved. moved ≡ false → StaysQuiet R.showing F.JournalFolder
-        registry.old registry.new folder.old folder.new) }
+    ensures passed { PassesSegment R.RegistryCalls F.JournalFolder registry.old registry.new
+        folder.old begin next result }
+    ensures still { IfOk result (λ moved. moved ≡ false
+        → KeepsShown R.showing registry.old registry.new) }
     ensures late { SkipsLate R.showing registry.old registry.new next result }
     ensures never { IfErr result (λ fault. fault ≢ OpenFault.Newer) }
     ensures begun { IfOk result (λ x. begin ≤ next → HasComeTo R.showing registry.old registry.new begin) }
@@ -107,27 +109,28 @@ fn pass_segment<R: RegistryQueries, F: JournalFolder>(
         Err(fault) => return Err(fault),
     }
     match follow_segment(alloc, registry, folder, begin) {
-        Ok(_segment) => Ok(true),
+        Ok(_text) => Ok(true),
         Err(fault) => Err(fault_between(fault)),
     }
 }
 
-/// Brings a registry up to the end of the segments that begin at these revisions. Answers the last
-/// one, if there is one.
+/// Brings a registry up to the end of the segments that begin at these revisions, which are only
+/// read. Answers the text of the last one, if there is one.
 pub(crate) fn follow_all<R: RegistryQueries, F: JournalFolder>(
     alloc: Global,
     registry: &mut R,
     folder: &mut F,
     begins: &[u64],
-) -> Result<Option<F::Segment>, OpenFault>
+) -> Result<Option<SegmentText>, OpenFault>
     ensures brings { BringsOn R.showing F.JournalFolder registry.old registry.new folder.old
         folder.new begins.now result }
-    ensures followed { FollowsAll R.RegistryCalls F.Segment.JournalFile F.JournalFolder registry.old
-        registry.new folder.old begins.now result }
+    ensures followed { FollowsAll R.RegistryCalls F.JournalFolder registry.old registry.new
+        folder.old begins.now result }
+    ensures ended { IfOk result (EndsAll F.JournalFolder folder.old begins.now) }
     ensures compared { ComparesAll R.showing F.JournalFolder registry.old registry.new folder.old
         begins.now result }
-    ensures come { IfErr result (λ fault. fault ≡ OpenFault.Newer → HasComeToLast R.RegistryCalls
-        F.Segment.JournalFile F.JournalFolder registry.old registry.new begins.now) }
+    ensures come { IfErr result (λ fault. fault ≡ OpenFault.Newer
+        → HasComeToLast R.showing registry.old registry.new begins.now) }
     ensures begun { IsSorted nat_cmp begins.now → MatchResult result
         (λ x. HasComeToFirst R.showing registry.old registry.new begins.now)
         (λ fault. fault ≡ OpenFault.Newer → HasComeToFirst R.showing registry.old registry.new begins.now) }
@@ -145,7 +148,7 @@ pub(crate) fn follow_all<R: RegistryQueries, F: JournalFolder>(
         rest = others;
     }
     match follow_segment(alloc, registry, folder, begin) {
-        Ok(segment) => Ok(Some(segment)),
+        Ok(text) => Ok(Some(text)),
         Err(fault) => Err(fault_after(moved, fault)),
     }
 }

@@ -102,5 +102,6 @@ module _ {R : Type 0} (w : Showing R) where
         (result : Result X OpenFault) : Type 0 where
       pub honest : StaysClean w old new
       pub same : IsSameFolder folder f g
-      pub stays : StaysOrMoved w folder old new f g result
+      pub quiet : folder.openings g ≡ folder.openings f
+      pub stays : StaysOrMoved w old new result
       pub obeys : ObeysSome old new f names result

@@ -1,13 +1,18 @@
 -- A segment that is read line by line.
-use Rattle.std.specs.Prelude.{◌≡◌, ℕ, List, [], ◌∷◌, ◌++◌, drop, Some}
+use Rattle.std.specs.Prelude.{◌≡◌, ℕ, List, [], ◌∷◌, ◌++◌, drop, Option, Some, None}
 use Rattle.pid_file.specs.WholeLines.{ended_pieces}
 use Rattle.pid_journal.specs.declared.folder.JournalFolder as folders
 use Rattle.pid_journal.specs.declared.segment_text.SegmentText.{SegmentText}
+use Rattle.pid_journal.specs.Steps.Places.{IsOpenEnd}
 use Rattle.pid_journal.specs.Steps.Segments.{IsSameFolder}
+
+-- what is held of a text and not taken
+abbrev pub held_of : SegmentText → List ℕ
+held_of t = drop t.taken t.held.items
 
 -- what is not taken yet of a text
 abbrev pub left_in : SegmentText → List ℕ → List ℕ
-left_in t text = drop t.taken t.held.items ++ drop t.read text
+left_in t text = held_of t ++ drop t.read text
 
 -- a line was taken, with its LF (10)
 pub record IsLine (rest line behind : List ℕ) : Type 0 where
@@ -30,3 +35,12 @@ module _ {F J : Type 0} (folder : folders.Ghosts F J) where
   -- what holds of the text of a segment, if it is known
   abbrev pub OfText : F → SegmentText → (List ℕ → Type 0) → Type 0
   OfText f t Says = (names : List ℕ) → folder.names f ≡ Some names → Says (folder.text_in f t.begin)
+
+  -- what is held of a segment is its end, and no whole line
+  abbrev pub EndsAt : F → SegmentText → Type 0
+  EndsAt f t = OfText f t (λ all. IsOpenEnd all (held_of t))
+
+  -- the same of the last one of these
+  abbrev pub EndsAll : F → List ℕ → Option SegmentText → Type 0
+  EndsAll f names None = names ≡ []
+  EndsAll f names (Some t) = (front : List ℕ) × (names ≡ front ++ t.begin ∷ []) × EndsAt f t

@@ -16,7 +16,6 @@ pub(crate) struct Paper {
     pub bytes: Vec<u8>,
     pub good_appends: u32,
     pub cuts: bool,
-    pub replayed: u32,
 }
 
 impl Paper {
@@ -56,10 +55,6 @@ impl JournalFile for Paper {
         self.bytes.len() as u64
     }
 
-    fn replayed(&mut self) {
-        self.replayed = u32::saturating_add(self.replayed, 1);
-    }
-
     fn append(&mut self, bytes: &[u8]) -> Result<(), WriteFault> {
         self.take(bytes)
     }
@@ -79,6 +74,7 @@ struct PaperFolder {
     alloc: Global,
     good_appends: u32,
     cuts: bool,
+    opened: u64,
 }
 
 impl JournalFolder for PaperFolder {
@@ -90,6 +86,8 @@ impl JournalFolder for PaperFolder {
 
     ghost text_in = { λ folder name. [] };
 
+    ghost openings = { λ folder. folder.opened };
+
     fn begins(&mut self, alloc: Global) -> Result<Vec<u64>, Refusal> {
         Ok(Vec::new(alloc))
     }
@@ -98,16 +96,25 @@ impl JournalFolder for PaperFolder {
         Err(Refusal::Store)
     }
 
+    fn replayed(&mut self) {}
+
+    fn cut(&mut self, _begin: u64, _count: u64) -> Result<(), Refusal> {
+        Err(Refusal::Store)
+    }
+
     fn segment(&mut self, _begin: u64) -> Result<Paper, Refusal> {
         Err(Refusal::Store)
     }
 
     fn new_segment(&mut self, _begin: u64) -> Result<Paper, Refusal> {
+        let Some(opened) = self.opened.checked_add(1) else {
+            return Err(Refusal::Store);
+        };
+        self.opened = opened;
         Ok(Paper {
             bytes: Vec::new(self.alloc),
             good_appends: self.good_appends,
             cuts: self.cuts,
-            replayed: 0,
         })
     }
 }
@@ -132,6 +139,7 @@ pub(crate) fn on_paper(alloc: Global, good_appends: u32, cuts: bool) -> Result<O
         alloc,
         good_appends,
         cuts,
+        opened: 0,
     };
     match open_journal(alloc, new_in_memory(alloc)?, &mut folder, 1_000_000) {
         Ok(opened) => Ok(opened.registry),

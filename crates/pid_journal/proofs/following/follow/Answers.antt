@@ -9,7 +9,6 @@ use Rattle.pid_journal.proofs.following.follow.Goals as goal
 
 pub loop-turn-init : goal.loop-turn-init
 loop-turn-init g c = record {
-  same = refl;
   reads = reads_none g.F.JournalFolder c.args.folder.now c.args.text.now;
   clean = λ clean. clean;
   follows = λ names known. follows_first g.R.RegistryCalls.showing c.args.registry.now (left_in c.args.text.now (g.F.JournalFolder.text_in c.args.folder.now c.args.text.now.begin));
@@ -17,8 +16,10 @@ loop-turn-init g c = record {
 
 pub loop-turn-preserved : goal.loop-turn-preserved
 loop-turn-preserved g c = record {
-  same = c.replayed.ensures ∙ c.loop-turn.invariant.same;
-  reads = reads_both g.F.JournalFolder c.args.folder.now c.loop-turn.folder c.take_line.new.folder c.args.text.now c.loop-turn.text c.take_line.new.self c.loop-turn.invariant.reads c.take_line.ensures.reads;
+  reads =
+      reads_both g.F.JournalFolder c.args.folder.now c.take_line.new.folder c.replayed.new.self c.args.text.now c.take_line.new.self c.take_line.new.self
+      (reads_both g.F.JournalFolder c.args.folder.now c.loop-turn.folder c.take_line.new.folder c.args.text.now c.loop-turn.text c.take_line.new.self c.loop-turn.invariant.reads c.take_line.ensures.reads)
+      (record { same = c.replayed.ensures.same; quiet = c.replayed.ensures.unopened; begin = refl });
   clean = λ clean. c.loop-turn.invariant.clean (c.follow_line.ensures.honest clean);
   follows = λ names known.
       let all = g.F.JournalFolder.text_in c.args.folder.now c.args.text.now.begin in

@@ -1,7 +1,9 @@
-use Rattle.std.proofs.Common.{Ok, refl, rules, ◌∙◌}
+use Rattle.std.proofs.Common.{Ok, inl, refl, rules, ◌∙◌}
+use Rattle.pid_journal.specs.Steps.Segments.{IsSameFolder}
 use Rattle.pid_journal.proofs.Comparing.{finds_fault, finds_newer, finds_refused, finds_same}
 use Rattle.pid_journal.proofs.Along.{segments_along, stops_at}
-use Rattle.pid_journal.proofs.InTurn.{at_folder, both_quiet, fault_found, first_found, found, gap_found, quiet_newer, read_names}
+use Rattle.pid_journal.proofs.Ending.{fault_found, found, gap_found, hands_new, hands_on, hands_then, and_same, ends_from, keeps_after, keeps_same}
+use Rattle.pid_journal.proofs.InTurn.{at_folder, ends_at, first_found, quiet_newer, read_names}
 use Rattle.pid_journal.proofs.ObeyedInTurn.{obeys_at, obeys_before, obeys_still, stops_before, stops_found, stops_still}
 use Rattle.pid_journal.proofs.opening.find_segment.Goals as goal
 use Rattle.pid_journal.proofs.opening.find_segment.Goals.{in-Ok-begin_segment, in-Err-begin_segment}
@@ -9,10 +11,11 @@ use Rattle.pid_journal.proofs.opening.find_segment.Goals.{in-Ok-begin_segment, i
 pub returns-in-Ok-segment_after-clause-found : goal.returns-in-Ok-segment_after-clause-found
 returns-in-Ok-segment_after-clause-found g c clean names known start marked shows =
     let is = c.as_slice.ensures.value ∙ read_names (g.F.JournalFolder.names c.args.folder.now) names c.in-Ok.begins.items known c.in-Ok.ensures.read in
-    let follows = at_folder g.R.RegistryCalls g.F.Segment.JournalFile g.F.JournalFolder c.args.registry.now c.follow_all.new.registry c.args.folder.now c.begins.new.self names c.as_slice.result.now (Ok c.in-Ok-follow_all.last) c.begins.ensures.same is c.in-Ok-follow_all.ensures.followed in (
+    let follows = at_folder g.R.RegistryCalls g.F.JournalFolder c.args.registry.now c.follow_all.new.registry c.args.folder.now c.begins.new.self names c.as_slice.result.now (Ok c.in-Ok-follow_all.last) c.begins.ensures.same is c.in-Ok-follow_all.ensures.followed in
+    let ends = ends_at g.R.RegistryCalls g.F.JournalFolder c.args.folder.now c.begins.new.self names c.as_slice.result.now c.in-Ok-follow_all.last c.begins.ensures.same is c.in-Ok-follow_all.ensures.ended in (
       refl,
-      found g.R.RegistryCalls g.F.Segment.JournalFile g.F.JournalFolder c.args.registry.now c.follow_all.new.registry c.segment_after.new.registry c.args.folder.now c.follow_all.new.folder c.segment_after.new.folder names c.as_slice-2.result.now c.in-Ok-follow_all.last c.in-Ok-segment_after.segment (c.as_slice-2.ensures.value ∙ read_names (g.F.JournalFolder.names c.args.folder.now) names c.in-Ok.begins.items known c.in-Ok.ensures.read)
-          c.segment_after.ensures.honest follows c.segment_after.ensures.kept (c.follow_all.ensures.brings.same.0 ∙ c.begins.ensures.same.0) c.in-Ok-segment_after.ensures.goes clean known start marked shows,
+      found g.R.RegistryCalls g.F.JournalFolder g.F.Segment.JournalFile c.args.registry.now c.follow_all.new.registry c.segment_after.new.registry c.args.folder.now c.follow_all.new.folder c.segment_after.new.folder names c.as_slice-2.result.now c.in-Ok-follow_all.last c.in-Ok-segment_after.segment (c.as_slice-2.ensures.value ∙ read_names (g.F.JournalFolder.names c.args.folder.now) names c.in-Ok.begins.items known c.in-Ok.ensures.read)
+          follows ends (c.follow_all.ensures.brings.same.0 ∙ c.begins.ensures.same.0, c.follow_all.ensures.brings.same.1 ∙ c.begins.ensures.same.1) c.segment_after.ensures.honest c.segment_after.ensures.kept c.in-Ok-segment_after.ensures.goes clean known start marked shows,
     )
 
 -- A GAP
@@ -21,9 +24,9 @@ pub returns-in-Err-Newer-clause-gap : goal.returns-in-Err-Newer-clause-gap
 returns-in-Err-Newer-clause-gap g c =
     elim c.match-begin_segment.branch [
       | in-Ok-begin_segment w ↦
-          rw w.result-is (λ gap. gap_found g.R.RegistryCalls g.F.Segment.JournalFile g.F.JournalFolder c.args.registry.now c.follow_all.new.registry c.begin_segment.new.registry c.args.folder.now c.follow_all.new.folder c.begin_segment.new.folder c.as_slice.result.now w.in-Ok-begin_segment.segment
-          (let stays = rw c.in-Err-Newer.field-0-is at c.in-Err-Newer.ensures.brings.stays in both_quiet g.R.RegistryCalls.showing g.F.JournalFolder c.args.registry.now c.args.registry.now c.follow_all.new.registry c.args.folder.now c.begins.new.self c.follow_all.new.folder c.follow_all.ensures.brings.honest ((λ clean h shown. shown), c.begins.ensures.unopened) (quiet_newer stays))
-          c.begin_segment.ensures.honest (c.follow_all.ensures.brings.same.0 ∙ c.begins.ensures.same.0) w.in-Ok-begin_segment.ensures.begun
+          rw w.result-is (λ gap. gap_found g.R.RegistryCalls g.F.JournalFolder g.F.Segment.JournalFile c.args.registry.now c.follow_all.new.registry c.begin_segment.new.registry c.args.folder.now c.follow_all.new.folder c.begin_segment.new.folder c.as_slice.result.now w.in-Ok-begin_segment.segment
+          (let stays = rw c.in-Err-Newer.field-0-is at c.in-Err-Newer.ensures.brings.stays in quiet_newer stays)
+          c.begin_segment.ensures.honest c.begin_segment.ensures.kept (c.follow_all.ensures.brings.same.0 ∙ c.begins.ensures.same.0) w.in-Ok-begin_segment.ensures.begun
           (λ names known. c.as_slice.ensures.value ∙ read_names (g.F.JournalFolder.names c.args.folder.now) names c.in-Ok.begins.items known c.in-Ok.ensures.read)
           ((rw c.in-Err-Newer.field-0-is at c.in-Err-Newer.ensures.come) refl))
       | in-Err-begin_segment w ↦ rw w.result-is tt
@@ -37,8 +40,8 @@ returns-in-Err-clause-found g c clean names known start marked shows = (tt, stop
 pub returns-clause-found : goal.returns-clause-found
 returns-clause-found g c clean names known start marked shows =
     let is = c.as_slice.ensures.value ∙ read_names (g.F.JournalFolder.names c.args.folder.now) names c.in-Ok.begins.items known c.in-Ok.ensures.read in
-    let follows = at_folder g.R.RegistryCalls g.F.Segment.JournalFile g.F.JournalFolder c.args.registry.now c.follow_all.new.registry c.args.folder.now c.begins.new.self names c.as_slice.result.now (Ok c.in-Ok-follow_all.last) c.begins.ensures.same is c.in-Ok-follow_all.ensures.followed in
-    fault_found g.R.RegistryCalls g.F.Segment.JournalFile g.F.JournalFolder c.args.registry.now c.follow_all.new.registry c.segment_after.new.registry c.args.folder.now names c.in-Ok-follow_all.last c.in-Err-segment_after.fault
+    let follows = at_folder g.R.RegistryCalls g.F.JournalFolder c.args.registry.now c.follow_all.new.registry c.args.folder.now c.begins.new.self names c.as_slice.result.now (Ok c.in-Ok-follow_all.last) c.begins.ensures.same is c.in-Ok-follow_all.ensures.followed in
+    fault_found g.R.RegistryCalls g.F.JournalFolder g.F.Segment.JournalFile c.args.registry.now c.follow_all.new.registry c.segment_after.new.registry c.args.folder.now names c.in-Ok-follow_all.last c.in-Err-segment_after.fault
     c.in-Err-segment_after.ensures.fault.0 c.segment_after.ensures.honest c.segment_after.ensures.kept follows clean known start marked shows
 
 -- WHICH LINES
@@ -68,8 +71,8 @@ returns-in-Err-Newer-clause-obeys g c =
     let stays = rw c.in-Err-Newer.field-0-is at c.in-Err-Newer.ensures.brings.stays in
     let quiet = quiet_newer stays in
     elim c.match-begin_segment.branch [
-      | in-Ok-begin_segment w ↦ rw w.result-is (λ names known. obeys_still g.R.RegistryCalls.showing g.F.JournalFolder c.args.registry.now c.begin_segment.new.registry c.args.folder.now names (λ clean h shown. c.begin_segment.ensures.kept clean h (quiet.0 (c.begin_segment.ensures.honest clean) h shown)))
-      | in-Err-begin_segment w ↦ rw w.result-is (λ names known. stops_still g.R.RegistryCalls.showing g.F.JournalFolder c.args.registry.now c.begin_segment.new.registry c.args.folder.now names (λ clean h shown. c.begin_segment.ensures.kept clean h (quiet.0 (c.begin_segment.ensures.honest clean) h shown)))
+      | in-Ok-begin_segment w ↦ rw w.result-is (λ names known. obeys_still g.R.RegistryCalls.showing g.F.JournalFolder c.args.registry.now c.begin_segment.new.registry c.args.folder.now names (λ clean h shown. c.begin_segment.ensures.kept clean h (quiet (c.begin_segment.ensures.honest clean) h shown)))
+      | in-Err-begin_segment w ↦ rw w.result-is (λ names known. stops_still g.R.RegistryCalls.showing g.F.JournalFolder c.args.registry.now c.begin_segment.new.registry c.args.folder.now names (λ clean h shown. c.begin_segment.ensures.kept clean h (quiet (c.begin_segment.ensures.honest clean) h shown)))
     ]
 
 -- WHAT IS COMPARED
@@ -113,4 +116,71 @@ returns-in-Err-Newer-clause-begun g c =
           first_found g.R.RegistryCalls.showing c.args.registry.now c.follow_all.new.registry c.begin_segment.new.registry names c.as_slice.result.now is c.begin_segment.ensures.honest
           ((rw c.in-Err-Newer.field-0-is at c.in-Err-Newer.ensures.begun) (rw c.as_slice.ensures.value c.in-Ok.ensures.ascending) refl))
       | in-Err-begin_segment w ↦ rw w.result-is tt
+    ]
+
+-- THE FOLDER
+
+pub returns-in-Err-clause-leaves : goal.returns-in-Err-clause-leaves
+returns-in-Err-clause-leaves g c = record {
+  keeps = keeps_same g.F.JournalFolder c.args.folder.now c.begins.new.self c.begins.ensures.same.1;
+  hands = c.begins.ensures.unopened;
+  handed = tt;
+  stays = inl tt;
+}
+
+pub returns-in-Err-follow_all-clause-leaves : goal.returns-in-Err-follow_all-clause-leaves
+returns-in-Err-follow_all-clause-leaves g c =
+    let brings = c.follow_all.ensures.brings in
+    record {
+      keeps = keeps_same g.F.JournalFolder c.args.folder.now c.follow_all.new.folder (brings.same.1 ∙ c.begins.ensures.same.1);
+      hands = brings.quiet ∙ c.begins.ensures.unopened;
+      handed = tt;
+      stays = and_same (brings.same.1 ∙ c.begins.ensures.same.1) c.in-Err-follow_all.ensures.brings.stays;
+    }
+
+pub returns-in-Ok-segment_after-clause-leaves : goal.returns-in-Ok-segment_after-clause-leaves
+returns-in-Ok-segment_after-clause-leaves g c =
+    let brings = c.follow_all.ensures.brings in
+    let same : IsSameFolder g.F.JournalFolder c.args.folder.now c.follow_all.new.folder = (brings.same.0 ∙ c.begins.ensures.same.0, brings.same.1 ∙ c.begins.ensures.same.1) in
+    record {
+      keeps = keeps_after g.F.JournalFolder c.args.folder.now c.follow_all.new.folder c.segment_after.new.folder c.as_slice.result.now c.in-Ok-follow_all.last same
+          (ends_from g.F.JournalFolder c.begins.new.self c.follow_all.new.folder c.as_slice.result.now c.in-Ok-follow_all.last brings.same c.in-Ok-follow_all.ensures.ended) c.segment_after.ensures.keeps;
+      hands = hands_then g.F.JournalFolder c.args.folder.now c.follow_all.new.folder c.segment_after.new.folder (Ok c.in-Ok-segment_after.segment) (brings.quiet ∙ c.begins.ensures.unopened) c.in-Ok-segment_after.ensures.hands;
+      handed = λ names known.
+          let is = c.as_slice.ensures.value ∙ read_names (g.F.JournalFolder.names c.args.folder.now) names c.in-Ok.begins.items known c.in-Ok.ensures.read in
+          let ends = ends_at g.R.RegistryCalls g.F.JournalFolder c.args.folder.now c.begins.new.self names c.as_slice.result.now c.in-Ok-follow_all.last c.begins.ensures.same is c.in-Ok-follow_all.ensures.ended in
+          hands_on g.R.RegistryCalls g.F.JournalFolder g.F.Segment.JournalFile c.follow_all.new.registry c.segment_after.new.registry c.args.folder.now c.follow_all.new.folder c.segment_after.new.folder names c.as_slice-2.result.now c.in-Ok-follow_all.last c.in-Ok-segment_after.segment ends same.0 c.in-Ok-segment_after.ensures.goes known;
+      stays = tt;
+    }
+
+pub returns-clause-leaves : goal.returns-clause-leaves
+returns-clause-leaves g c =
+    let brings = c.follow_all.ensures.brings in
+    let same : IsSameFolder g.F.JournalFolder c.args.folder.now c.follow_all.new.folder = (brings.same.0 ∙ c.begins.ensures.same.0, brings.same.1 ∙ c.begins.ensures.same.1) in
+    record {
+      keeps = keeps_after g.F.JournalFolder c.args.folder.now c.follow_all.new.folder c.segment_after.new.folder c.as_slice.result.now c.in-Ok-follow_all.last same
+          (ends_from g.F.JournalFolder c.begins.new.self c.follow_all.new.folder c.as_slice.result.now c.in-Ok-follow_all.last brings.same c.in-Ok-follow_all.ensures.ended) c.segment_after.ensures.keeps;
+      hands = c.in-Err-segment_after.ensures.hands ∙ brings.quiet ∙ c.begins.ensures.unopened;
+      handed = tt;
+      stays = inl c.in-Err-segment_after.ensures.fault.1;
+    }
+
+pub returns-in-Err-Newer-clause-leaves : goal.returns-in-Err-Newer-clause-leaves
+returns-in-Err-Newer-clause-leaves g c =
+    let brings = c.follow_all.ensures.brings in
+    let quiet = brings.quiet ∙ c.begins.ensures.unopened in
+    let same = c.begin_segment.ensures.same ∙ brings.same.1 ∙ c.begins.ensures.same.1 in
+    elim c.match-begin_segment.branch [
+      | in-Ok-begin_segment w ↦ rw w.result-is (record {
+        keeps = keeps_same g.F.JournalFolder c.args.folder.now c.begin_segment.new.folder same;
+        hands = hands_then g.F.JournalFolder c.args.folder.now c.follow_all.new.folder c.begin_segment.new.folder (Ok w.in-Ok-begin_segment.segment) quiet w.in-Ok-begin_segment.ensures.hands;
+        handed = hands_new g.R.RegistryCalls g.F.JournalFolder g.F.Segment.JournalFile c.follow_all.new.registry c.begin_segment.new.registry c.args.folder.now c.follow_all.new.folder c.begin_segment.new.folder w.in-Ok-begin_segment.segment (brings.same.0 ∙ c.begins.ensures.same.0) w.in-Ok-begin_segment.ensures.begun;
+        stays = tt;
+      })
+      | in-Err-begin_segment w ↦ rw w.result-is (record {
+        keeps = keeps_same g.F.JournalFolder c.args.folder.now c.begin_segment.new.folder same;
+        hands = w.in-Err-begin_segment.ensures.hands ∙ quiet;
+        handed = tt;
+        stays = inl w.in-Err-begin_segment.ensures.fault.1;
+      })
     ]

@@ -2,8 +2,8 @@ use Rattle.std.proofs.Common.{subst}
 use Rattle.pid_journal.specs.Openings.{IsNewName}
 use Rattle.pid_journal.proofs.opening.goes_on.Goals as goal
 
-pub returns-then-count-longest : goal.returns-then-count-longest
-returns-then-count-longest g c = record { honest = λ clean. clean; kept = λ clean h shown. shown; ends = λ off. absurd (let no : ⊥ = cc in no); fault = tt }
+pub returns-then-read-longest : goal.returns-then-read-longest
+returns-then-read-longest g c = record { honest = λ clean. clean; kept = λ clean h shown. shown; ends = λ off. absurd (let no : ⊥ = cc in no); fault = tt }
 
 pub returns-in-Ok : goal.returns-in-Ok
 returns-in-Ok g c = record {

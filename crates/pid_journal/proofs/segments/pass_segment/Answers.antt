@@ -6,20 +6,20 @@ use Rattle.pid_journal.proofs.segments.pass_segment.Goals as goal
 
 pub returns-then-next-revision-clause-passed : goal.returns-then-next-revision-clause-passed
 returns-then-next-revision-clause-passed g c =
-    skip_passes g.R.RegistryCalls g.F.Segment.JournalFile g.F.JournalFolder c.args.registry.now c.revision_of.new.registry c.args.folder.now c.args.begin c.args.next c.in-Ok.revision false c.in-Ok.ensures.kept c.in-Ok.ensures.told c.if-next-revision.true
+    skip_passes g.R.RegistryCalls g.F.JournalFolder c.args.registry.now c.revision_of.new.registry c.args.folder.now c.args.begin c.args.next c.in-Ok.revision false c.in-Ok.ensures.kept c.in-Ok.ensures.told c.if-next-revision.true
 
 pub returns-in-Ok-follow_segment-clause-passed : goal.returns-in-Ok-follow_segment-clause-passed
 returns-in-Ok-follow_segment-clause-passed g c =
-    follow_passes g.R.RegistryCalls g.F.Segment.JournalFile g.F.JournalFolder c.args.registry.now c.revision_of.new.registry c.follow_segment.new.registry c.args.folder.now c.args.begin c.args.next c.in-Ok.revision c.in-Ok-follow_segment._segment true
+    follow_passes g.R.RegistryCalls g.F.JournalFolder c.args.registry.now c.revision_of.new.registry c.follow_segment.new.registry c.args.folder.now c.args.begin c.args.next c.in-Ok.revision c.in-Ok-follow_segment._text true
     c.follow_segment.ensures.brings.honest c.in-Ok.ensures.kept c.in-Ok.ensures.told c.if-next-revision.false c.in-Ok-follow_segment.ensures.followed
 
 pub returns-in-Err-follow_segment-clause-passed : goal.returns-in-Err-follow_segment-clause-passed
 returns-in-Err-follow_segment-clause-passed g c =
-    fault_passes g.R.RegistryCalls g.F.Segment.JournalFile g.F.JournalFolder c.args.registry.now c.revision_of.new.registry c.follow_segment.new.registry c.args.folder.now c.args.begin c.args.next c.in-Ok.revision c.in-Err-follow_segment.fault c.fault_between.result
+    fault_passes g.R.RegistryCalls g.F.JournalFolder c.args.registry.now c.revision_of.new.registry c.follow_segment.new.registry c.args.folder.now c.args.begin c.args.next c.in-Ok.revision c.in-Err-follow_segment.fault c.fault_between.result
     c.follow_segment.ensures.brings.honest c.in-Ok.ensures.kept c.in-Ok.ensures.told c.if-next-revision.false c.in-Err-follow_segment.ensures.followed c.fault_between.ensures.refused
 
 pub returns-in-Err-clause-passed : goal.returns-in-Err-clause-passed
-returns-in-Err-clause-passed g c = none_passes g.R.RegistryCalls g.F.Segment.JournalFile g.F.JournalFolder c.args.registry.now c.revision_of.new.registry c.args.folder.now c.args.begin c.args.next c.in-Err.fault c.in-Err.ensures.fault.0 c.revision_of.ensures.kept
+returns-in-Err-clause-passed g c = none_passes g.R.RegistryCalls g.F.JournalFolder c.args.registry.now c.revision_of.new.registry c.args.folder.now c.args.begin c.args.next c.in-Err.fault c.in-Err.ensures.fault.0 c.revision_of.ensures.kept
 
 -- a registry that has come to the next one
 pub returns-then-next-revision-clause-late : goal.returns-then-next-revision-clause-late
@@ -44,6 +44,7 @@ pub returns-in-Err-clause-brings : goal.returns-in-Err-clause-brings
 returns-in-Err-clause-brings g c = record {
   honest = c.revision_of.ensures.honest;
   same = (refl, refl);
+  quiet = refl;
   stays = inl c.in-Err.ensures.fault.1;
   obeys = stops_still g.R.RegistryCalls.showing g.F.JournalFolder c.args.registry.now c.revision_of.new.registry c.args.folder.now (c.args.begin ∷ []) c.revision_of.ensures.kept;
 }
@@ -52,6 +53,7 @@ pub returns-then-next-revision-clause-brings : goal.returns-then-next-revision-c
 returns-then-next-revision-clause-brings g c = record {
   honest = c.revision_of.ensures.honest;
   same = (refl, refl);
+  quiet = refl;
   stays = tt;
   obeys = obeys_still g.R.RegistryCalls.showing g.F.JournalFolder c.args.registry.now c.revision_of.new.registry c.args.folder.now (c.args.begin ∷ []) c.revision_of.ensures.kept;
 }
@@ -60,6 +62,7 @@ pub returns-in-Ok-follow_segment-clause-brings : goal.returns-in-Ok-follow_segme
 returns-in-Ok-follow_segment-clause-brings g c = record {
   honest = λ clean. c.revision_of.ensures.honest (c.follow_segment.ensures.brings.honest clean);
   same = c.follow_segment.ensures.brings.same;
+  quiet = c.follow_segment.ensures.brings.quiet;
   stays = tt;
   obeys = obeys_later g.R.RegistryCalls.showing g.F.JournalFolder c.args.registry.now c.revision_of.new.registry c.follow_segment.new.registry c.args.folder.now (c.args.begin ∷ []) c.follow_segment.ensures.brings.honest c.revision_of.ensures.kept c.in-Ok-follow_segment.ensures.brings.obeys;
 }
@@ -68,10 +71,11 @@ pub returns-in-Err-follow_segment-clause-brings : goal.returns-in-Err-follow_seg
 returns-in-Err-follow_segment-clause-brings g c = record {
   honest = λ clean. c.revision_of.ensures.honest (c.follow_segment.ensures.brings.honest clean);
   same = c.follow_segment.ensures.brings.same;
-  stays = stays_through g.R.RegistryCalls g.F.Segment.JournalFile g.F.JournalFolder c.args.registry.now c.revision_of.new.registry c.follow_segment.new.registry c.args.folder.now c.args.folder.now c.follow_segment.new.folder false c.in-Err-follow_segment.fault c.fault_between.result (λ off. (c.revision_of.ensures.kept, refl)) c.follow_segment.ensures.brings.honest
+  quiet = c.follow_segment.ensures.brings.quiet;
+  stays = stays_through g.R.RegistryCalls.showing c.args.registry.now c.revision_of.new.registry c.follow_segment.new.registry false c.in-Err-follow_segment.fault c.fault_between.result (λ off. c.revision_of.ensures.kept) c.follow_segment.ensures.brings.honest
       c.in-Err-follow_segment.ensures.brings.stays (λ on. absurd (let no : ⊥ = cc in no)) c.fault_between.ensures.stays;
   obeys = stops_later g.R.RegistryCalls.showing g.F.JournalFolder c.args.registry.now c.revision_of.new.registry c.follow_segment.new.registry c.args.folder.now (c.args.begin ∷ []) c.follow_segment.ensures.brings.honest c.revision_of.ensures.kept c.in-Err-follow_segment.ensures.brings.obeys;
 }
 
 pub returns-then-next-revision-clause-still : goal.returns-then-next-revision-clause-still
-returns-then-next-revision-clause-still g c off = (c.revision_of.ensures.kept, refl)
+returns-then-next-revision-clause-still g c off = c.revision_of.ensures.kept

@@ -7,7 +7,7 @@ returns-in-Err-clause-unopened g c = Refused c.in-Err.fault
       alone = c.in_ok-registry.registry;
       opens = c.in_ok-registry.ensures.opened;
       back = c.in-Err.registry;
-      after = c.open_journal.new.folder;
+      after = c.open_journal-opened.new.folder;
       leaves = c.in-Err.ensures;
       closed = c.close.ensures;
     })
