@@ -1,7 +1,9 @@
 -- The counts that a journal says are compared with those of a registry.
-use Rattle.std.proofs.Common.{◌≡◌, inl, inr, ℕ, ◌+◌, ◌<◌, ◌≤◌, Bool, true, false, cond, List, [], ◌∷◌, ◌++◌, Option, Some, None, Result, Ok, Err, refl, sym, ap, subst, ◌∙◌, arith, append_assoc}
-use Rattle.std.specs.Prelude.{nat_le, not, ◌||◌, IfSome, MatchResult, is_some, option_map, unwrap_or}
-use Rattle.std.specs.Option.{option_or}
+use Rattle.std.proofs.Common.{◌≡◌, inl, inr, ℕ, suc, ◌+◌, ◌<◌, ◌≤◌, Bool, true, false, cond, List, [], ◌∷◌, ◌++◌, length, Option, Some, None, Result, Ok, Err, refl, sym, ap, subst, ◌∙◌, arith, append_assoc}
+use Rattle.std.specs.Prelude.{nat_le, nat_lt, not, ◌||◌, ◌==◌, find, filter_map, slice_index_or, IsSorted, MatchResult, is_some, option_map, unwrap_or}
+use Rattle.std.specs.List.{cons_option}
+use Rattle.std.specs.Ordering.{is_lt, nat_cmp}
+use Rattle.std.specs.declared.cmp.Ordering.TheVariants.{Less, Equal, Greater}
 use Rattle.std.proofs.lemmas.Bool.Decides.{nat_tests}
 use Rattle.pid_file.specs.WholeLines.{ended_pieces, whole_lines}
 use Rattle.pid_moderation.specs.History.{History}
@@ -15,16 +17,13 @@ use Rattle.pid_journal.specs.declared.open_fault.OpenFault.TheVariants.{Refused,
 use Rattle.pid_journal.specs.declared.placing.Place.{Place}
 use Rattle.pid_journal.specs.declared.placing.Step.TheVariants.{Behind, Nowhere}
 use Rattle.pid_journal.specs.Journals.{counts_held, counts_said}
-use Rattle.pid_journal.specs.Openings.{HaveNotes, IsNewerThan, IsRefused, StandsIn, compared, revision_after}
-use Rattle.pid_journal.specs.Steps.Comparing.{Compares, ComparesOn, FaultsAt, FitsGap, IsOlderAt, OfLast, OfSegment, RefusesOther, SkipsLate}
+use Rattle.pid_journal.specs.Openings.{HaveNotes, IsNewerThan, IsRefused, StandsIn, revision_after, said_since}
+use Rattle.pid_journal.specs.Steps.Comparing.{AreOthers, Compares, ComparesOn, FaultsAt, FitsGap, IsOlderAt, OfBegun, OfLast, OfSegment, RefusesOther, SkipsLate}
 use Rattle.pid_journal.specs.Steps.Segments.{HasBegun, IsSameFolder, TellsRevision}
 use Rattle.pid_journal.proofs.Places.{none_left, revision_counted}
 use Rattle.pid_journal.proofs.Reading.{said_is_idle}
 
 -- ONE LINE
-
-abbrev is_no_older : Counts → Option Counts → Bool
-is_no_older now told = unwrap_or (option_map (λ (k : Counts). nat_le now.revision k.revision) told) false
 
 not_so : (a b : ℕ) → a < b → nat_le b a ≡ false
 not_so a b lt = grind (arith, nat_tests)
@@ -32,32 +31,25 @@ not_so a b lt = grind (arith, nat_tests)
 is_so : (a b : ℕ) → b ≤ a → nat_le b a ≡ true
 is_so a b le = grind (arith, nat_tests)
 
-still_older : (now : Counts) (told : Option Counts) (place : Place) → IsOlderAt told now place → is_no_older now told ≡ false
-still_older now None place is = refl
-still_older now (Some k) place is = not_so k.revision now.revision is.0.1
+-- what the first line says, and then the others
+abbrev since_with : ℕ → List (List ℕ) → Option Counts → Option Counts
+since_with revision lines said = find (λ k. nat_le revision k.revision) (cons_option said (filter_map counts_said lines))
 
--- the next line is compared on, where the counts so far are older
-goes_on : (now : Counts) (told next : Option Counts) (place : Place) (line : List ℕ) (lines : List (List ℕ)) → IsOlderAt told now place → cond (is_idle_line line) (option_or (counts_said line) told) None ≡ next → compared now told (line ∷ lines) ≡ compared now next lines
-goes_on now told next place line lines older is = λ i. cond (still_older now told place older i) told (compared now (is i) lines)
+pub since_older : (now k : Counts) (line : List ℕ) (lines : List (List ℕ)) → counts_said line ≡ Some k → k.revision < now.revision → said_since now.revision (line ∷ lines) ≡ said_since now.revision lines
+since_older now k line lines says older = ap (since_with now.revision lines) says ∙ (λ i. cond (not_so k.revision now.revision older i) (Some k) (said_since now.revision lines))
 
-ends_at : (now k : Counts) (lines : List (List ℕ)) → now.revision ≤ k.revision → compared now (Some k) lines ≡ Some k
-ends_at now k [] newer = refl
-ends_at now k (line ∷ lines) newer = λ i. cond (is_so k.revision now.revision newer i) (Some k) (compared now (cond (is_idle_line line) (option_or (counts_said line) (Some k)) None) lines)
+pub since_here : (now k : Counts) (line : List ℕ) (lines : List (List ℕ)) → counts_said line ≡ Some k → now.revision ≤ k.revision → said_since now.revision (line ∷ lines) ≡ Some k
+since_here now k line lines says newer = ap (since_with now.revision lines) says ∙ (λ i. cond (is_so k.revision now.revision newer i) (Some k) (said_since now.revision lines))
 
-says_next : (k : Counts) (told : Option Counts) (line : List ℕ) → counts_said line ≡ Some k → cond (is_idle_line line) (option_or (counts_said line) told) None ≡ Some k
-says_next k told line says = λ i. cond (said_is_idle line k says i) (option_or (says i) told) None
+pub since_still : (now : Counts) (line : List ℕ) (lines : List (List ℕ)) → counts_said line ≡ None → said_since now.revision (line ∷ lines) ≡ said_since now.revision lines
+since_still now line lines none = ap (since_with now.revision lines) none
 
-pub compared_older : (now k : Counts) (told : Option Counts) (place : Place) (line : List ℕ) (lines : List (List ℕ)) → IsOlderAt told now place → counts_said line ≡ Some k → compared now told (line ∷ lines) ≡ compared now (Some k) lines
-compared_older now k told place line lines older says = goes_on now told (Some k) place line lines older (says_next k told line says)
+off_says_none : (line : List ℕ) (said : Option Counts) → counts_said line ≡ said → is_idle_line line ≡ false → counts_said line ≡ None
+off_says_none line None is off = is
+off_says_none line (Some k) is off = let no : true ≡ false = sym (said_is_idle line k is) ∙ off in absurd (let never : ⊥ = cc in never)
 
-pub compared_here : (now k : Counts) (told : Option Counts) (place : Place) (line : List ℕ) (lines : List (List ℕ)) → IsOlderAt told now place → counts_said line ≡ Some k → now.revision ≤ k.revision → compared now told (line ∷ lines) ≡ Some k
-compared_here now k told place line lines older says newer = compared_older now k told place line lines older says ∙ ends_at now k lines newer
-
-pub compared_still : (now : Counts) (told : Option Counts) (place : Place) (line : List ℕ) (lines : List (List ℕ)) → IsOlderAt told now place → counts_said line ≡ None → is_idle_line line ≡ true → compared now told (line ∷ lines) ≡ compared now told lines
-compared_still now told place line lines older none idle = goes_on now told told place line lines older (λ i. cond (idle i) (option_or (none i) told) None)
-
-pub compared_no_more : (now : Counts) (told : Option Counts) (place : Place) (line : List ℕ) (lines : List (List ℕ)) → IsOlderAt told now place → is_idle_line line ≡ false → compared now told (line ∷ lines) ≡ compared now None lines
-compared_no_more now told place line lines older off = goes_on now told None place line lines older (λ i. cond (off i) (option_or (counts_said line) told) None)
+pub since_off : (now : Counts) (line : List ℕ) (lines : List (List ℕ)) → is_idle_line line ≡ false → said_since now.revision (line ∷ lines) ≡ said_since now.revision lines
+since_off now line lines off = since_still now line lines (off_says_none line (counts_said line) refl off)
 
 -- WHAT COMES AFTER IT
 
@@ -94,37 +86,32 @@ not_under : (a b : ℕ) → a < b → b ≤ a → ⊥
 not_under a b lt le = omega arith
 
 -- below one there is none that is late
-pub noted_older : {P : Type 0} (last : Option Counts) (now : Counts) (place : Place) (line : List ℕ) (lines : List (List ℕ)) → is_idle_line line ≡ false → IsOlderAt last now place → now.revision ≤ place.most → HaveNotes place.noted (line ∷ lines) → P
-noted_older last now place line lines off older late all = absurd (not_under place.most now.revision (older.1 (all.0 off)) late)
+pub noted_older : {P : Type 0} (now : Counts) (place : Place) (line : List ℕ) (lines : List (List ℕ)) → is_idle_line line ≡ false → IsOlderAt now place → now.revision ≤ place.most → HaveNotes place.noted (line ∷ lines) → P
+noted_older now place line lines off older late all = absurd (not_under place.most now.revision (older (all.0 off)) late)
 
 -- ALL LINES
 
 -- what is compared in the text is what is compared in its rest
 pub record IsComparing (text rest : List ℕ) (now : Counts) (begin : ℕ) (place : Place) : Type 0 where
-  pub last : Option Counts
-  pub is : IsOlderAt last now place
-  pub same : compared now None (whole_lines text) ≡ compared now last (whole_lines rest)
+  pub is : IsOlderAt now place
+  pub same : said_since now.revision (whole_lines text) ≡ said_since now.revision (whole_lines rest)
   pub most : revision_after begin (whole_lines text) ≡ revision_after place.most (whole_lines rest)
   pub noted : HaveNotes false (whole_lines text) → HaveNotes place.noted (whole_lines rest)
 
 pub compares_first : (text : List ℕ) (now : Counts) (begin : ℕ) → IsComparing text text now begin (record { noted = false; most = begin })
-compares_first text now begin = record { last = None; is = (tt, λ on. absurd (let no : ⊥ = cc in no)); same = refl; most = refl; noted = λ all. all }
+compares_first text now begin = record { is = λ on. absurd (let no : ⊥ = cc in no); same = refl; most = refl; noted = λ all. all }
 
 pub compares_on : (text rest behind line : List ℕ) (now : Counts) (begin : ℕ) (place next : Place) (at : IsComparing text rest now begin place) → whole_lines rest ≡ line ∷ whole_lines behind
-    → ComparesOn (Behind next) now at.last place line (whole_lines behind) → IsComparing text behind now begin next
-compares_on text rest behind line now begin place next at first (last, is, same, far, noted) = record {
-  last = last;
+    → ComparesOn (Behind next) now place line (whole_lines behind) → IsComparing text behind now begin next
+compares_on text rest behind line now begin place next at first (is, same, far, noted) = record {
   is = is;
-  same = at.same ∙ ap (compared now at.last) first ∙ same;
+  same = at.same ∙ ap (said_since now.revision) first ∙ same;
   most = at.most ∙ ap (revision_after place.most) first ∙ far;
   noted = λ all. noted (subst (λ (ls : List (List ℕ)). HaveNotes place.noted ls) first (at.noted all));
 }
 
-if_counts : (o p : Option Counts) (P : Counts → Type 0) → o ≡ p → IfSome p P → IfSome o P
-if_counts o p P is says = subst (λ (x : Option Counts). IfSome x P) (sym is) says
-
-pub compares_here : (text rest behind line : List ℕ) (now : Counts) (begin : ℕ) (place : Place) (at : IsComparing text rest now begin place) → whole_lines rest ≡ line ∷ whole_lines behind → compared now at.last (line ∷ whole_lines behind) ≡ Some now → StandsIn now begin (whole_lines text)
-compares_here text rest behind line now begin place at first is = inl (at.same ∙ ap (compared now at.last) first ∙ is)
+pub compares_here : (text rest behind line : List ℕ) (now : Counts) (begin : ℕ) (place : Place) (at : IsComparing text rest now begin place) → whole_lines rest ≡ line ∷ whole_lines behind → said_since now.revision (line ∷ whole_lines behind) ≡ Some now → StandsIn now begin (whole_lines text)
+compares_here text rest behind line now begin place at first is = inl (at.same ∙ ap (said_since now.revision) first ∙ is)
 
 pub compares_refused : (now : Counts) (begin : ℕ) (lines : List (List ℕ)) (fault : OpenFault) → IsRefused fault → FaultsAt fault now begin lines
 compares_refused now begin lines (Refused e) is = tt
@@ -132,42 +119,24 @@ compares_refused now begin lines Another is = absurd is
 compares_refused now begin lines Newer is = absurd is
 compares_refused now begin lines Missing is = absurd is
 
-pub compares_nowhere : (text rest behind line : List ℕ) (now : Counts) (begin : ℕ) (place : Place) (at : IsComparing text rest now begin place) → whole_lines rest ≡ line ∷ whole_lines behind → ComparesOn Nowhere now at.last place line (whole_lines behind) → FaultsAt Another now begin (whole_lines text)
+pub compares_nowhere : (text rest behind line : List ℕ) (now : Counts) (begin : ℕ) (place : Place) (at : IsComparing text rest now begin place) → whole_lines rest ≡ line ∷ whole_lines behind → ComparesOn Nowhere now place line (whole_lines behind) → FaultsAt Another now begin (whole_lines text)
 compares_nowhere text rest behind line now begin place at first others all =
     let other = others (subst (λ (ls : List (List ℕ)). HaveNotes place.noted ls) first (at.noted all)) in
-    (other.0, at.same ∙ ap (compared now at.last) first ∙ other.1, other.2, other.3)
+    (other.0, at.same ∙ ap (said_since now.revision) first ∙ other.1, other.2)
 
-apart : (a b d : ℕ) → a ≡ b → b < d → d ≤ a → ⊥
-apart a b d is lt le = omega arith
-
-said_none : (last : Option Counts) (now : Counts) (place : Place) → IsOlderAt last now place → now.revision ≤ place.most → last ≡ None
-said_none None now place is late = refl
-said_none (Some k) now place is late = absurd (apart place.most k.revision now.revision is.0.0 is.0.1 late)
-
-compares_last : (text rest : List ℕ) (now : Counts) (begin : ℕ) (place : Place) (at : IsComparing text rest now begin place) → ended_pieces rest ≡ [] → compared now None (whole_lines text) ≡ at.last
-compares_last text rest now begin place at none = at.same ∙ ap (compared now at.last) (none_left rest none)
+-- no line is left
+since_none : (text rest : List ℕ) (now : Counts) (begin : ℕ) (place : Place) → IsComparing text rest now begin place → ended_pieces rest ≡ [] → said_since now.revision (whole_lines text) ≡ None
+since_none text rest now begin place at none = at.same ∙ ap (said_since now.revision) (none_left rest none)
 
 after_last : (text rest : List ℕ) (now : Counts) (begin : ℕ) (place : Place) → IsComparing text rest now begin place → ended_pieces rest ≡ [] → revision_after begin (whole_lines text) ≡ place.most
 after_last text rest now begin place at none = at.most ∙ ap (revision_after place.most) (none_left rest none)
 
-pub compares_end : (text rest : List ℕ) (now : Counts) (begin : ℕ) (place : Place) → IsComparing text rest now begin place → ended_pieces rest ≡ [] → now.revision ≤ place.most → StandsIn now begin (whole_lines text)
-compares_end text rest now begin place at none late =
-    inr (compares_last text rest now begin place at none ∙ said_none at.last now place at.is late, subst (λ (n : ℕ). now.revision ≤ n) (sym (after_last text rest now begin place at none)) late)
-
-newer_said : (last : Option Counts) (now : Counts) (place : Place) → IsOlderAt last now place → IfSome last (λ k. k.revision < now.revision)
-newer_said None now place is = tt
-newer_said (Some k) now place is = is.0.1
-
-pub compares_newer : (text rest : List ℕ) (now : Counts) (begin : ℕ) (place : Place) → IsComparing text rest now begin place → ended_pieces rest ≡ [] → place.most < now.revision → IsNewerThan now begin (whole_lines text)
-compares_newer text rest now begin place at none newer = (
-  subst (λ (n : ℕ). n < now.revision) (sym (after_last text rest now begin place at none)) newer,
-  if_counts (compared now None (whole_lines text)) at.last (λ k. k.revision < now.revision) (compares_last text rest now begin place at none) (newer_said at.last now place at.is),
-)
-
 pub compares_all : {X : Type 0} (result : Result X OpenFault) (text rest : List ℕ) (now : Counts) (begin : ℕ) (place : Place) → IsComparing text rest now begin place → ended_pieces rest ≡ [] → MatchResult result (λ x. now.revision ≤ place.most) (λ fault. (fault ≡ Newer) × (place.most < now.revision))
     → Compares now begin (whole_lines text) result
-compares_all (Ok x) text rest now begin place at none says = compares_end text rest now begin place at none says
-compares_all (Err fault) text rest now begin place at none says = subst (λ (e : OpenFault). FaultsAt e now begin (whole_lines text)) (sym says.0) (compares_newer text rest now begin place at none says.1)
+compares_all (Ok x) text rest now begin place at none says =
+    inr (since_none text rest now begin place at none, subst (λ (n : ℕ). now.revision ≤ n) (sym (after_last text rest now begin place at none)) says)
+compares_all (Err fault) text rest now begin place at none says =
+    subst (λ (e : OpenFault). FaultsAt e now begin (whole_lines text)) (sym says.0) (since_none text rest now begin place at none, subst (λ (n : ℕ). n < now.revision) (sym (after_last text rest now begin place at none)) says.1)
 
 -- SEGMENTS
 
@@ -196,6 +165,68 @@ late_is a b d is le lt = omega arith
 
 pub not_late : {R : Type 0} (w : Showing R) (old new : R) (revision next : ℕ) (h : History) → TellsRevision w old new (Ok revision) → w.is_clean new → w.shows old h → next ≤ revision_of h → revision < next → ⊥
 not_late w old new revision next h told clean shown late lt = late_is revision (revision_of h) next (told clean h shown) late lt
+
+-- ASCENDING NAMES
+
+le_through : (a b d : ℕ) → a ≤ b → b ≤ d → a ≤ d
+le_through a b d one two = omega arith
+
+le_self : (a : ℕ) → a ≤ a
+le_self a = omega arith
+
+not_lt : (t e : Bool) → is_lt (cond t Less (cond e Equal Greater)) ≡ false → t ≡ false
+not_lt true e is = is
+not_lt false e is = refl
+
+le_from : (a b : ℕ) → nat_lt a b ≡ false → b ≤ a
+le_from a b is = grind (arith, nat_tests, is)
+
+two_long : (n : ℕ) → 0 + 1 < suc (suc n)
+two_long n = omega arith
+
+pub first_two : (a b : ℕ) (ns : List ℕ) → IsSorted nat_cmp (a ∷ b ∷ ns) → a ≤ b
+first_two a b ns sorted = le_from b a (not_lt (nat_lt b a) (b == a) (sorted 0 0 (omega arith) (two_long (length ns))))
+
+sorted_rest : (a : ℕ) (ns : List ℕ) → IsSorted nat_cmp (a ∷ ns) → IsSorted nat_cmp ns
+sorted_rest a ns sorted i d low lt =
+    subst (λ (m : ℕ). is_lt (nat_cmp (slice_index_or (a ∷ ns) m d) (slice_index_or ns i d)) ≡ false) (further i) (sorted (suc i) d (omega arith) (longer i (length ns) lt))
+  where
+    further : (i : ℕ) → suc i + 1 ≡ suc (i + 1)
+    further i = omega arith
+
+    longer : (i n : ℕ) → i + 1 < n → suc i + 1 < suc n
+    longer i n lt = omega arith
+
+-- the first one is no later than the last
+first_last : (a : ℕ) (front : List ℕ) (last : ℕ) → IsSorted nat_cmp (a ∷ front ++ last ∷ []) → a ≤ last
+first_last a [] last sorted = first_two a last [] sorted
+first_last a (b ∷ front) last sorted = le_through a b last (first_two a b (front ++ last ∷ []) sorted) (first_last b front last (sorted_rest a (b ∷ front ++ last ∷ []) sorted))
+
+-- nor is any other
+up_to_last : (names front above below : List ℕ) (last n : ℕ) → IsSorted nat_cmp names → names ≡ front ++ last ∷ [] → names ≡ above ++ n ∷ below → n ≤ last
+up_to_last names front above below last n sorted is split = from names front above sorted is split
+  where
+    alone : (ns : List ℕ) (x y : ℕ) (bs : List ℕ) → x ∷ [] ≡ y ∷ bs → y ≤ x
+    alone ns x y bs same = let one : x ≡ y = cc in subst (λ (z : ℕ). z ≤ x) one (le_self x)
+
+    too_short : (x y : ℕ) (above : List ℕ) (n : ℕ) (below : List ℕ) → x ∷ [] ≡ y ∷ above ++ n ∷ below → ⊥
+    too_short x y [] n below same = let no : ⊥ = cc in no
+    too_short x y (z ∷ above) n below same = let no : ⊥ = cc in no
+
+    firsts : (x y : ℕ) (xs ys : List ℕ) → x ∷ xs ≡ y ∷ ys → x ≡ y
+    firsts x y xs ys same = cc
+
+    rests : (x y : ℕ) (xs ys : List ℕ) → x ∷ xs ≡ y ∷ ys → xs ≡ ys
+    rests x y xs ys same = cc
+
+    from : (ns front above : List ℕ) → IsSorted nat_cmp ns → ns ≡ front ++ last ∷ [] → ns ≡ above ++ n ∷ below → n ≤ last
+    from ns [] [] sorted is split = alone ns last n below (sym is ∙ split)
+    from ns [] (x ∷ above) sorted is split = absurd (too_short last x above n below (sym is ∙ split))
+    from ns (y ∷ front) [] sorted is split =
+        let first : y ≡ n = firsts y n (front ++ last ∷ []) below (sym is ∙ split) in
+        subst (λ (z : ℕ). z ≤ last) first (first_last y front last (subst (λ (l : List ℕ). IsSorted nat_cmp l) is sorted))
+    from ns (y ∷ front) (x ∷ above) sorted is split =
+        from (front ++ last ∷ []) front above (sorted_rest y (front ++ last ∷ []) (subst (λ (l : List ℕ). IsSorted nat_cmp l) is sorted)) refl (rests y x (front ++ last ∷ []) (above ++ n ∷ below) (sym is ∙ split))
 
 module _ {R F J : Type 0} (w : Showing R) (folder : folders.Ghosts F J) where
   -- the last segment, where the others were passed
@@ -236,11 +267,30 @@ module _ {R F J : Type 0} (w : Showing R) (folder : folders.Ghosts F J) where
       subst (λ (text : ℕ → List ℕ). P (counts_held h) name (whole_lines (text name))) same.1
       (says (honest clean) front name (read ∙ is) (same.0 ∙ known ∙ ap (λ (ns : List ℕ). Some ns) (sym read)) h shown (subst (λ (ns : List ℕ). HasBegun h ns) (sym read) begun))
 
+  -- with other counts the registry is neither in the lines nor past them
+  others_neither : (now : Counts) (begin : ℕ) (lines : List (List ℕ)) → AreOthers now (said_since now.revision lines) → (StandsIn now begin lines → ⊥) × (IsNewerThan now begin lines → ⊥)
+  others_neither now begin lines (k, says, other) = (neither, λ newer. never k (sym says ∙ newer.0))
+    where
+      never : (x : Counts) → Some x ≡ None → ⊥
+      never x is = cc
+
+      same : (x y : Counts) → Some x ≡ Some y → x ≡ y
+      same x y is = cc
+
+      neither : StandsIn now begin lines → ⊥
+      neither (inl here) = other (same k now (sym says ∙ here))
+      neither (inr late) = never k (sym says ∙ late.0)
+
   fault_gap : (now : Counts) (begin : ℕ) (lines : List (List ℕ)) (fault : OpenFault) → (fault ≡ Newer → ⊥) → FaultsAt fault now begin lines → RefusesOther fault now begin lines
-  fault_gap now begin lines (Refused e) other says = inr tt
-  fault_gap now begin lines Another other says = inl (refl, says)
+  fault_gap now begin lines (Refused e) other says = inl tt
+  fault_gap now begin lines Another other says = inr (refl, λ noted. others_neither now begin lines (says noted))
   fault_gap now begin lines Newer other says = absurd (other refl)
   fault_gap now begin lines Missing other says = absurd says
+
+  -- if the last one has begun, all have, since they ascend
+  pub last_begun : (old new : R) (f : F) (names : List ℕ) (P : Counts → ℕ → List (List ℕ) → Type 0) → IsSorted nat_cmp names → OfLast w folder old new f names P → OfBegun w folder old new f names P
+  last_begun old new f names P sorted says clean front name is known h shown begun =
+      says clean front name is known h shown (λ above below n split. le_through n name (revision_of h) (up_to_last names front above below name n sorted is split) begun)
 
   -- the file was found after all segments
   pub finds_same : (old mid new : R) (f g : F) (names begins : List ℕ) → IsSameFolder folder f g → begins ≡ names → (w.is_clean new → w.is_clean mid) → OfLast w folder old mid g begins StandsIn → OfLast w folder old new f names (FitsGap false)
@@ -255,5 +305,5 @@ module _ {R F J : Type 0} (w : Showing R) (folder : folders.Ghosts F J) where
   finds_fault old mid new f g names begins fault same read honest other says clean front name is known h shown begun =
       fault_gap (counts_held h) name (whole_lines (folder.text_in f name)) fault other (all_at old mid new f g names begins (FaultsAt fault) same read honest says clean front name is known h shown begun)
 
-  pub finds_refused : (old new : R) (f : F) (names : List ℕ) (fault : OpenFault) → IsRefused fault → OfLast w folder old new f names (RefusesOther fault)
-  finds_refused old new f names fault refused clean front name is known h shown begun = inr refused
+  pub finds_refused : (old new : R) (f : F) (names : List ℕ) (fault : OpenFault) → IsRefused fault → OfBegun w folder old new f names (RefusesOther fault)
+  finds_refused old new f names fault refused clean front name is known h shown begun = inl refused

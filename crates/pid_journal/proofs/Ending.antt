@@ -1,5 +1,5 @@
 -- Where a journal goes on after an opening, and what becomes of its folder.
-use Rattle.std.proofs.Common.{◌≡◌, ◌≢◌, ◌⊎◌, inl, inr, ℕ, ◌+◌, Bool, true, false, List, [], ◌∷◌, ◌++◌, length, Option, Some, None, Result, Ok, Err, refl, sym, ap, subst, ◌∙◌, append-nil}
+use Rattle.std.proofs.Common.{◌≡◌, ◌≢◌, ◌⊎◌, inl, inr, ℕ, ◌+◌, Bool, true, false, List, [], ◌∷◌, ◌++◌, length, take, drop, take-append-drop, Option, Some, None, Result, Ok, Err, refl, sym, ap, subst, ◌∙◌, append-nil}
 use Rattle.std.specs.Prelude.{IfOk, IfSome, ◌==◌}
 use Rattle.pid_file.proofs.Cuts.{ended_more, whole_same}
 use Rattle.pid_file.specs.WholeLines.{ended_pieces, open_part, whole_lines}
@@ -19,7 +19,7 @@ use Rattle.pid_journal.specs.Pairs.{AddsMark}
 use Rattle.pid_journal.specs.Steps.Notes.{IsMark}
 use Rattle.pid_journal.specs.Steps.Parts.{MayBeMarked}
 use Rattle.pid_journal.specs.Steps.Places.{IsOpenEnd}
-use Rattle.pid_journal.specs.Steps.Reads.{EndsAll, EndsAt, held_of}
+use Rattle.pid_journal.specs.Steps.Reads.{EndsAtLast, EndsAt, held_of}
 use Rattle.pid_journal.specs.Steps.Reopening.{Begins, BeginsIn, BeginsSegment, CutsTorn, EndsIn, EndsMarked, FindsGap, FindsNext, GoesOnIn, HandsOn, Reopens}
 use Rattle.pid_journal.specs.Steps.Segments.{AsksOn, EndsLast, FaultsAlong, FollowsAll, HandsOut, HasComeToLast, IsSameFolder, KeepsLines, KeepsShown, LinesMayBeObeyed, MayBegin, ShowsWithin}
 use Rattle.pid_journal.proofs.Along.{stops_after}
@@ -87,8 +87,8 @@ module _ {F J : Type 0} (folder : folders.Ghosts F J) where
             (λ names known.
             let end = ends names known in
             let left = cut_held f t count (λ front behind. LeavesPart (Some (folder.text_in g t.begin)) front behind) is there names known end in
-            ap whole_lines (some_same (folder.text_in g t.begin) (end.end.front ++ left.part) left.left)
-            ∙ whole_same end.end.front left.part (part_torn left.part left.gone (ap ended_pieces (sym left.parts) ∙ end.torn))
+            ap whole_lines (some_same (folder.text_in g t.begin) (end.end.front ++ take left.0 (held_of t)) left.1)
+            ∙ whole_same end.end.front (take left.0 (held_of t)) (part_torn (take left.0 (held_of t)) (drop left.0 (held_of t)) (ap ended_pieces (take-append-drop left.0 (held_of t)) ∙ end.torn))
             ∙ sym (lines_kept (folder.text_in f t.begin) (held_of t) end));
         cut = tt;
         fault = refused;
@@ -269,13 +269,13 @@ module _ {R F J : Type 0} (registry : Ghosts R) (folder : folders.Ghosts F J) (f
       }
 
   -- a journal that goes on after the last segment
-  pub found : (old mid new : R) (f g z : F) (names begins : List ℕ) (last : Option SegmentText) (k : J) → begins ≡ names → FollowsAll registry folder old mid f names (Ok last) → EndsAll folder f names last → IsSameFolder folder f g
+  pub found : (old mid new : R) (f g z : F) (names begins : List ℕ) (last : Option SegmentText) (k : J) → begins ≡ names → FollowsAll registry folder old mid f names (Ok last) → EndsAtLast folder f names last → IsSameFolder folder f g
       → (registry.showing.is_clean new → registry.showing.is_clean mid) → KeepsShown registry.showing mid new
       → ((t : SegmentText) × (last ≡ Some t) × GoesOnIn registry folder file mid new g z t k) ⊎ (Begins registry folder file mid new g z k × ((last ≡ None) ⊎ MayBegin registry.showing mid new begins))
       → registry.showing.is_clean new → folder.names f ≡ Some names → (start : History) → IsMarked start → ShowsWithin registry.showing (folder.text_in f) start names old → EndsIn registry folder file (folder.text_in f) start names (folder.names z) new k
   found old mid new f g z names begins last k read follows ends same honest kept (inl (t, is, goes)) clean known start marked shows =
       let there = subst (λ (l : Option SegmentText). EndsLast registry (folder.text_in f) start names mid l) is (follows (honest clean) known start marked shows) in
-      let end = (subst (λ (l : Option SegmentText). EndsAll folder f names l) is ends).2 in
+      let end = (subst (λ (l : Option SegmentText). EndsAtLast folder f names l) is ends).2 in
       in_last mid new g z (folder.text_in f) start names t k (same.0 ∙ known) same.1
       (λ all has. subst (λ (text : ℕ → List ℕ). IsOpenEnd (text t.begin) (held_of t)) (sym same.1) (end all (sym same.0 ∙ has)))
       there goes clean (honest clean) kept
@@ -306,18 +306,18 @@ module _ {R F J : Type 0} (registry : Ghosts R) (folder : folders.Ghosts F J) (f
   pub hands_new : (mid new : R) (f g z : F) (k : J) → folder.names g ≡ folder.names f → Begins registry folder file mid new g z k → (names : List ℕ) → folder.names f ≡ Some names → HandsOn registry folder file z k
   hands_new mid new f g z k same begins names known = let b = begins names (same ∙ known) in (names, b.name, b.named, ([], b.safe ∙ ap (λ (l : List ℕ). Some (l ++ [])) (sym b.empty), inl refl))
 
-  pub hands_on : (mid new : R) (f g z : F) (names begins : List ℕ) (last : Option SegmentText) (k : J) → EndsAll folder f names last → folder.names g ≡ folder.names f
+  pub hands_on : (mid new : R) (f g z : F) (names begins : List ℕ) (last : Option SegmentText) (k : J) → EndsAtLast folder f names last → folder.names g ≡ folder.names f
       → ((t : SegmentText) × (last ≡ Some t) × GoesOnIn registry folder file mid new g z t k) ⊎ (Begins registry folder file mid new g z k × ((last ≡ None) ⊎ MayBegin registry.showing mid new begins)) → folder.names f ≡ Some names → HandsOn registry folder file z k
   hands_on mid new f g z names begins last k ends same (inl (t, is, goes)) known =
-      let all = subst (λ (l : Option SegmentText). EndsAll folder f names l) is ends in
+      let all = subst (λ (l : Option SegmentText). EndsAtLast folder f names l) is ends in
       (all.0, t.begin, goes.same ∙ same ∙ known ∙ ap (λ (ns : List ℕ). Some ns) all.1, adds_mark mid new (folder.text_in z t.begin) (file.safe k) (goes.marked names (goes.same ∙ same ∙ known)))
   hands_on mid new f g z names begins last k ends same (inr (says, why)) known = hands_new mid new f g z k same says names known
 
 module _ {F J : Type 0} (folder : folders.Ghosts F J) where
   -- what was read of a folder that stays
-  pub ends_from : (f g : F) (names : List ℕ) (last : Option SegmentText) → IsSameFolder folder f g → EndsAll folder f names last → (t : SegmentText) → last ≡ Some t → EndsAt folder g t
+  pub ends_from : (f g : F) (names : List ℕ) (last : Option SegmentText) → IsSameFolder folder f g → EndsAtLast folder f names last → (t : SegmentText) → last ≡ Some t → EndsAt folder g t
   ends_from f g names last same ends t is all known =
-      let end = (subst (λ (l : Option SegmentText). EndsAll folder f names l) is ends).2 in
+      let end = (subst (λ (l : Option SegmentText). EndsAtLast folder f names l) is ends).2 in
       subst (λ (text : ℕ → List ℕ). IsOpenEnd (text t.begin) (held_of t)) (sym same.1) (end all (sym same.0 ∙ known))
 
   pub keeps_after : (f g z : F) (names : List ℕ) (last : Option SegmentText) → IsSameFolder folder f g → ((t : SegmentText) → last ≡ Some t → EndsAt folder g t) → (((t : SegmentText) → last ≡ Some t → EndsAt folder g t) → KeepsLines folder g z) → KeepsLines folder f z

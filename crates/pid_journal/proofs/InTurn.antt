@@ -1,8 +1,7 @@
 -- Segments in turn.
-use Rattle.std.proofs.Common.{◌≡◌, ◌⊎◌, inl, inr, ℕ, suc, ◌+◌, ◌<◌, ◌≤◌, Bool, true, false, List, [], ◌∷◌, ◌++◌, length, Option, Some, None, Result, Ok, Err, refl, sym, ap, subst, ◌∙◌, arith, append_assoc, append-nil}
-use Rattle.std.specs.Prelude.{IfSome, IsSorted, MatchResult, ◌==◌, nat_lt, cond}
-use Rattle.std.specs.Ordering.{is_lt, nat_cmp}
-use Rattle.std.specs.declared.cmp.Ordering.TheVariants.{Less, Equal, Greater}
+use Rattle.std.proofs.Common.{◌≡◌, ◌⊎◌, inl, inr, ℕ, ◌<◌, ◌≤◌, Bool, true, false, List, [], ◌∷◌, ◌++◌, Option, Some, None, Result, Ok, Err, refl, sym, ap, subst, ◌∙◌, arith, append_assoc, append-nil}
+use Rattle.std.specs.Prelude.{IfSome, IsSorted, MatchResult, ◌==◌}
+use Rattle.std.specs.Ordering.{nat_cmp}
 use Rattle.std.proofs.lemmas.Bool.Decides.{nat_tests}
 use Rattle.pid_file.specs.WholeLines.{whole_lines}
 use Rattle.pid_moderation.proofs.RevisionLemmas.{grows, marked_stays}
@@ -20,11 +19,11 @@ use Rattle.pid_journal.specs.Journals.{AreTrue, JournalLeads, lines_in}
 use Rattle.pid_journal.specs.Steps.Ways.{IsAlong, IsInSegments, IsOnWay}
 use Rattle.pid_journal.specs.Openings.{IsNewName, IsRefused, FollowsInTurn, StopsAtOne}
 use Rattle.pid_journal.specs.Steps.Places.{IsOpenEnd}
-use Rattle.pid_journal.specs.Steps.Reads.{EndsAll, EndsAt, held_of}
+use Rattle.pid_journal.specs.Steps.Reads.{EndsAtLast, EndsAt, held_of}
 use Rattle.pid_journal.specs.Steps.Segments.{EndsLast, FaultsAlong, FollowsAll, FollowsSegment, HasBegun, HasComeTo, HasComeToFirst, HasComeToLast, IsSameFolder, KeepsShown, LinesMayBeObeyed, PassesSegment, ShowsWithin, TellsRevision}
 use Rattle.pid_journal.proofs.Along.{along_all, segments_along, stops_as, stops_at}
 use Rattle.pid_journal.proofs.Appending.{history_both}
-use Rattle.pid_journal.proofs.Comparing.{last_same}
+use Rattle.pid_journal.proofs.Comparing.{first_two, last_same}
 use Rattle.pid_journal.proofs.ObeyedLines.{obeys_both}
 use Rattle.pid_journal.proofs.Places.{no_lines_left, same_by_revision}
 
@@ -132,19 +131,6 @@ next_at front names name next rest later parts is = parts ∙ ap (λ (ns : List 
 
 first_alone : (x y : ℕ) (xs ys front : List ℕ) → front ≡ [] → x ∷ xs ≡ front ++ y ∷ ys → x ≡ y
 first_alone x y xs ys front none same = let is : x ∷ xs ≡ y ∷ ys = same ∙ ap (λ (ns : List ℕ). ns ++ y ∷ ys) none in cc
-
-not_lt : (t e : Bool) → is_lt (cond t Less (cond e Equal Greater)) ≡ false → t ≡ false
-not_lt true e is = is
-not_lt false e is = refl
-
-le_from : (a b : ℕ) → nat_lt a b ≡ false → b ≤ a
-le_from a b is = grind (arith, nat_tests, is)
-
-first_two : (a b : ℕ) (ns : List ℕ) → IsSorted nat_cmp (a ∷ b ∷ ns) → a ≤ b
-first_two a b ns sorted = le_from b a (not_lt (nat_lt b a) (b == a) (sorted 0 0 (omega arith) (two (length ns))))
-  where
-    two : (n : ℕ) → 0 + 1 < suc (suc n)
-    two n = omega arith
 
 pub skip_begun : {R : Type 0} (w : Showing R) (old new : R) (name next n : ℕ) → TellsRevision w old new (Ok n) → name ≤ next → next ≤ n → HasComeTo w old new name
 skip_begun w old new name next n told le late clean h shown = through name next n (revision_of h) le late (told clean h shown)
@@ -412,13 +398,13 @@ module _ {R : Type 0} (registry : Ghosts R) where
         (subst (λ (ns : List ℕ). MatchResult result (EndsLast registry (folder.text_in g) start ns mid) (FaultsAlong registry start (lines_in (folder.text_in g) ns) mid)) is said)
 
     -- the text of the last one
-    pub ends_all : (old mid : R) (f g : F) (names : List ℕ) (name : ℕ) (rest : List ℕ) (moved : Bool) (k : SegmentText) → IsInTurn registry.showing folder old mid f g names name rest moved → rest ≡ [] → k.begin ≡ name → EndsAt folder g k → EndsAll folder f names (Some k)
+    pub ends_all : (old mid : R) (f g : F) (names : List ℕ) (name : ℕ) (rest : List ℕ) (moved : Bool) (k : SegmentText) → IsInTurn registry.showing folder old mid f g names name rest moved → rest ≡ [] → k.begin ≡ name → EndsAt folder g k → EndsAtLast folder f names (Some k)
     ends_all old mid f g names name rest moved k turn none at ends = (
       turn.at.0,
       turn.at.1 ∙ (λ i. turn.at.0 ++ sym at i ∷ none i),
       λ all known. subst (λ (text : ℕ → List ℕ). IsOpenEnd (text k.begin) (held_of k)) turn.same.1 (ends all (turn.same.0 ∙ known)),
     )
 
-    pub ends_at : (f g : F) (names begins : List ℕ) (last : Option SegmentText) → IsSameFolder folder f g → begins ≡ names → EndsAll folder g begins last → EndsAll folder f names last
+    pub ends_at : (f g : F) (names begins : List ℕ) (last : Option SegmentText) → IsSameFolder folder f g → begins ≡ names → EndsAtLast folder g begins last → EndsAtLast folder f names last
     ends_at f g names begins None same read none = sym read ∙ none
     ends_at f g names begins (Some k) same read (front, is, ends) = (front, sym read ∙ is, λ all known. subst (λ (text : ℕ → List ℕ). IsOpenEnd (text k.begin) (held_of k)) same.1 (ends all (same.0 ∙ known)))

@@ -1,5 +1,5 @@
 -- Marks, and what may be cut off.
-use Rattle.std.proofs.Common.{◌≡◌, inl, inr, ℕ, suc, ◌+◌, ◌≤◌, List, [], ◌∷◌, ◌++◌, length, map, Option, Some, None, Result, Ok, Err, refl, sym, ap, subst, ◌∙◌, arith, append_assoc, append-nil, length-append}
+use Rattle.std.proofs.Common.{◌≡◌, inl, inr, ℕ, suc, ◌+◌, ◌≤◌, List, [], ◌∷◌, ◌++◌, length, map, take, drop, Option, Some, None, Result, Ok, Err, refl, sym, ap, subst, ◌∙◌, arith, append_assoc, append-nil, length-append, take-append-drop}
 use Rattle.std.specs.Prelude.{IfSome, IsErr, IsErrAnd}
 use Rattle.pid_file.proofs.Cuts.{ended_line, ended_more, map_append, open_no_lf}
 use Rattle.pid_file.specs.Lines.{drop_cr}
@@ -20,7 +20,7 @@ use Rattle.pid_journal.specs.Steps.Notes.{IsMark, MayBeAdded, counts_in}
 use Rattle.pid_journal.specs.Doubts.{LeavesPart, MarksAreWithin}
 use Rattle.pid_journal.proofs.Appending.{empty_says_none}
 use Rattle.pid_journal.proofs.InTurn.{in_parts}
-use Rattle.pid_journal.proofs.Noted.{counted}
+use Rattle.pid_journal.proofs.Noted.{counted, leaves_part}
 use Rattle.pid_journal.proofs.Reading.{idle_says_none}
 use Rattle.pid_journal.proofs.Resuming.{counted_status}
 
@@ -83,7 +83,7 @@ part_within text part gone entry count un parts counted above rest is =
 -- WHAT STAYS
 
 whole_part : (now : Option (List ℕ)) (front behind : List ℕ) → now ≡ Some (front ++ behind) → LeavesPart now front behind
-whole_part now front behind is = record { part = behind; gone = []; parts = sym (append-nil behind); left = is }
+whole_part now front behind is = leaves_part now front behind behind [] (sym (append-nil behind)) is
 
 pub appended_part : (old now : Option (List ℕ)) (entry : List ℕ) → ((front : List ℕ) → old ≡ Some front → now ≡ Some (front ++ entry)) → (front : List ℕ) → old ≡ Some front → LeavesPart now front entry
 appended_part old now entry appends front is = whole_part now front entry (appends front is)
@@ -94,22 +94,22 @@ pub left_within : (old mid : Option (List ℕ)) (entry : List ℕ) (count : ℕ)
 left_within None mid entry count un counts unknown leaves = subst (λ (o : Option (List ℕ)). IfSome o (λ text. MarksAreWithin text count)) (sym (unknown refl)) tt
 left_within (Some text) mid entry count un counts unknown leaves =
     let left = leaves text refl in
-    subst (λ (o : Option (List ℕ)). IfSome o (λ t. MarksAreWithin t count)) (sym left.left) (part_within text left.part left.gone entry count un left.parts (sym counts))
+    subst (λ (o : Option (List ℕ)). IfSome o (λ t. MarksAreWithin t count)) (sym left.1) (part_within text (take left.0 entry) (drop left.0 entry) entry count un (sym (take-append-drop left.0 entry)) (sym counts))
 
 pub stays : (safe : Option (List ℕ)) (c : Asked) (result : Result Reply Refusal) → AddsEntry safe safe c result
 stays safe c result text is = inl is
 
 -- an entry came to it whole
 pub added : (old now : Option (List ℕ)) (entry : List ℕ) (k : Counts) (c : Asked) (result : Result Reply Refusal) → IsEntry entry k c → ((front : List ℕ) → old ≡ Some front → now ≡ Some (front ++ entry)) → AddsEntry old now c result
-added old now entry k c result is appends text known = inr (entry, k, is, inl (appends text known))
+added old now entry k c result is appends text known = inr (entry, k, is, inl ([], appends text known ∙ ap (λ (l : List ℕ). Some l) (sym (append-nil (text ++ entry))), inl refl))
 
 -- and maybe a mark
 pub added_marked : {R : Type 0} (w : Showing R) (r s : R) (old mid now : Option (List ℕ)) (entry : List ℕ) (k : Counts) (c : Asked) (result : Result Reply Refusal) → IsEntry entry k c → ((front : List ℕ) → old ≡ Some front → mid ≡ Some (front ++ entry)) → MayBeMarked w r s mid now
     → AddsEntry old now c result
 added_marked w r s old mid now entry k c result is appends marks text known =
     elim (marks (text ++ entry) (appends text known)) [
-      | inl same ↦ inr (entry, k, is, inl same)
-      | inr (mark, held, marked, more, told) ↦ inr (entry, k, is, inr (inl (mark, held, marked, more)))
+      | inl same ↦ inr (entry, k, is, inl ([], same ∙ ap (λ (l : List ℕ). Some l) (sym (append-nil (text ++ entry))), inl refl))
+      | inr (mark, held, marked, more, told) ↦ inr (entry, k, is, inl (mark, more, inr (held, marked)))
     ]
 
 -- a part of an entry came to it at a fault, and what came to it may be cut off again
@@ -117,17 +117,16 @@ pub added_back : (old mid now : Option (List ℕ)) (entry : List ℕ) (count : �
     → CutsAfter mid now count → AddsEntry old now c result
 added_back old mid now entry count k c result is fault counts leaves after text known =
     let left = leaves text known in
-    let cut = after text left.part left.left (counted old text count known counts) in
-    let part : LeavesPart now text entry = record {
-      part = cut.part;
-      gone = cut.gone ++ left.gone;
-      parts = left.parts ∙ ap (λ (l : List ℕ). l ++ left.gone) cut.parts ∙ append_assoc cut.part cut.gone left.gone;
-      left = cut.left;
-    } in
-    inr (entry, k, is, inr (inr (fault, part)))
+    let first = take left.0 entry in
+    let gone = drop left.0 entry in
+    let cut = after text first left.1 (counted old text count known counts) in
+    let parts : entry ≡ take cut.0 first ++ (drop cut.0 first ++ gone) =
+    sym (take-append-drop left.0 entry) ∙ ap (λ (l : List ℕ). l ++ gone) (sym (take-append-drop cut.0 first)) ∙ append_assoc (take cut.0 first) (drop cut.0 first) gone in
+    let part : LeavesPart now text entry = leaves_part now text entry (take cut.0 first) (drop cut.0 first ++ gone) parts cut.1 in
+    inr (entry, k, is, inr (fault, part))
 
 pub cut_off : (now : Option (List ℕ)) (front behind : List ℕ) → now ≡ Some front → LeavesPart now front behind
-cut_off now front behind is = record { part = []; gone = behind; parts = refl; left = is ∙ ap (λ (l : List ℕ). Some l) (sym (append-nil front)) }
+cut_off now front behind is = leaves_part now front behind [] behind refl (is ∙ ap (λ (l : List ℕ). Some l) (sym (append-nil front)))
 
 pub err_of : (result : Result Reply Refusal) → IsErrAnd result IsMemoryOrStore → IsErr result
 err_of (Ok x) fault = absurd fault

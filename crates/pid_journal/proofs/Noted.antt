@@ -1,5 +1,5 @@
 -- A command whose entry was written: what its end leaves.
-use Rattle.std.proofs.Common.{◌≡◌, ◌⊎◌, inl, inr, ℕ, true, false, List, [], ◌++◌, length, Option, Some, None, Result, Ok, Err, refl, sym, ap, subst, ◌∙◌, append_assoc, append-nil}
+use Rattle.std.proofs.Common.{◌≡◌, ◌⊎◌, inl, inr, ℕ, true, false, List, [], ◌++◌, length, take, drop, Option, Some, None, Result, Ok, Err, refl, sym, ap, subst, ◌∙◌, append_assoc, append-nil, take-append-drop, take_at}
 use Rattle.std.specs.Prelude.{IfSome, IsErrAnd}
 use Rattle.pid_moderation.specs.declared.command.Reply.{Reply}
 use Rattle.pid_moderation.specs.declared.refusal.Refusal.{Refusal}
@@ -12,12 +12,16 @@ use Rattle.pid_service_laws.specs.declared.registry_calls.RegistryCalls.{Ghosts}
 use Rattle.pid_journal.specs.declared.file.JournalFile as files
 use Rattle.pid_journal.specs.declared.journaled.Journaled.{Journaled}
 use Rattle.pid_journal.specs.Journals.{counts_held, IsEntry, JournalLeads}
-use Rattle.pid_journal.specs.Doubts.{IsInDoubt}
+use Rattle.pid_journal.specs.Doubts.{IsInDoubt, LeavesPart}
 use Rattle.pid_journal.specs.Pairs.{PairFailsBetween, PairShows, pair_showing}
 use Rattle.pid_journal.specs.Steps.Parts.{IsCutBack, MayBeMarked, pair_showing_from}
 use Rattle.pid_journal.specs.Steps.Segments.{KeepsShown}
 use Rattle.pid_journal.specs.Steps.Notes.{IsMark}
 use Rattle.pid_journal.proofs.Appending.{appended, marked}
+
+-- a part of some bytes is some first ones of them
+pub leaves_part : (now : Option (List ℕ)) (front behind part gone : List ℕ) → behind ≡ part ++ gone → now ≡ Some (front ++ part) → LeavesPart now front behind
+leaves_part now front behind part gone parts left = (length part, left ∙ ap (λ (l : List ℕ). Some (front ++ l)) (sym (ap (take (length part)) parts ∙ take_at part gone (length part) refl)))
 
 -- a part of an entry after the text of a journal
 in_doubt : (start h : History) (safe : Option (List ℕ)) (text entry part gone : List ℕ) (c : Asked) → JournalLeads start text h → IsEntry entry (counts_held h) c → entry ≡ part ++ gone → safe ≡ Some (text ++ part) → IsInDoubt start safe h (after h c)
@@ -26,7 +30,7 @@ in_doubt start h safe text entry part gone c leads is parts left = record {
   leads = leads;
   more = entry;
   last = inl (c, is, refl);
-  left = record { part = part; gone = gone; parts = parts; left = left };
+  left = leaves_part safe text entry part gone parts left;
 }
 
 -- a judgement is no fault
@@ -67,7 +71,7 @@ module _ {R J : Type 0} (registry : Ghosts R) (file : files.Ghosts J) where
       elim (back text part safe refl settled) [
         | inl cut ↦ inl (record { shown = shown; settled = cut.0; text = text; safe = cut.1; leads = leads })
         | inr left ↦ inr (record {
-          doubt = in_doubt start h (file.safe new.journal) text entry left.1.part (left.1.gone ++ gone) c leads is (parts ∙ ap (λ (l : List ℕ). l ++ gone) left.1.parts ∙ append_assoc left.1.part left.1.gone gone) left.1.left;
+          doubt = in_doubt start h (file.safe new.journal) text entry (take left.1.0 part) (drop left.1.0 part ++ gone) c leads is (parts ∙ ap (λ (l : List ℕ). l ++ gone) (sym (take-append-drop left.1.0 part)) ∙ append_assoc (take left.1.0 part) (drop left.1.0 part) gone) left.1.1;
           fails = inl (left.0, shown);
         })
       ]
@@ -96,14 +100,14 @@ module _ {R J : Type 0} (registry : Ghosts R) (file : files.Ghosts J) where
       → PairFailsBetween registry file start new h (after h c)
   unfolding in_doubt
   fallen start h new text entry c leads is fails safe =
-      record { doubt = in_doubt start h (file.safe new.journal) text entry entry [] c leads is (sym (append-nil entry)) safe; fails = inr (refl, fails) }
+      record { doubt = in_doubt start h (file.safe new.journal) text entry entry [] c leads is (sym (append-nil entry)) safe; fails = inr (safe, fails) }
 
   -- the registry has failed at a command that changes nothing, and has no entry
   pub fallen_unnoted : (start h next : History) (new : Journaled R J) (text : List ℕ) → JournalLeads start text h → next ≡ h → registry.showing.fails_between new.registry h next → file.safe new.journal ≡ Some text
       → PairFailsBetween registry file start new h next
   fallen_unnoted start h next new text leads same fails safe =
       let none : file.safe new.journal ≡ Some (text ++ []) = safe ∙ ap (λ (l : List ℕ). Some l) (sym (append-nil text)) in
-      record { doubt = record { text = text; leads = leads; more = []; last = inr (inl refl, same); left = record { part = []; gone = []; parts = refl; left = none } }; fails = inr (refl, fails) }
+      record { doubt = record { text = text; leads = leads; more = []; last = inr (inl refl, same); left = (0, none) }; fails = inr (none, fails) }
 
   -- a command that changes nothing was obeyed without an entry
   pub unnoted : (start h : History) (p : Journaled R J) (r : R) (result : Result Reply Refusal) (c : Asked) → PairShows registry file start p h → after h c ≡ h → CommandLeaves registry.showing result r h c

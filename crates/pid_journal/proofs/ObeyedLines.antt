@@ -1,5 +1,5 @@
 -- Which lines of segments lead from one history to another.
-use Rattle.std.proofs.Common.{inl, inr, ℕ, ◌≤◌, List, [], ◌∷◌, ◌++◌, refl, sym, ap, subst, ◌∙◌, append-nil}
+use Rattle.std.proofs.Common.{◌≡◌, inl, inr, ℕ, ◌≤◌, List, [], ◌∷◌, ◌++◌, length, take, drop, refl, sym, ap, subst, ◌∙◌, append-nil, take_at, drop_at}
 use Rattle.pid_file.specs.WholeLines.{whole_lines}
 use Rattle.pid_moderation.specs.History.{History}
 use Rattle.pid_moderation.specs.Views.{revision_of}
@@ -17,7 +17,7 @@ obeys_none text (name ∷ names) h = inl (obeys_none text names h)
 pub obeys_both : (text : ℕ → List ℕ) (xs ys : List ℕ) (h m g : History) → FollowsInTurn text xs h m → FollowsInTurn text ys m g → FollowsInTurn text (xs ++ ys) h g
 obeys_both text [] ys h m g is more = subst (λ (x : History). FollowsInTurn text ys x g) (sym is) more
 obeys_both text (x ∷ xs) ys h m g (inl far) more = inl (obeys_both text xs ys h m g far more)
-obeys_both text (x ∷ xs) ys h m g (inr (next, one, far)) more = inr (next, one, obeys_both text xs ys next m g far more)
+obeys_both text (x ∷ xs) ys h m g (inr (begun, stands, from, next, along, far)) more = inr (begun, stands, from, next, along, obeys_both text xs ys next m g far more)
 
 -- of the first one alone
 pub obeys_first : (text : ℕ → List ℕ) (name : ℕ) (rest : List ℕ) (h g : History) → FollowsInTurn text (name ∷ []) h g → FollowsInTurn text (name ∷ rest) h g
@@ -25,19 +25,12 @@ obeys_first text name rest h g one = obeys_both text (name ∷ []) rest h g g on
 
 -- lines of a segment from where the registry stands
 pub obeys_in : (text : ℕ → List ℕ) (name : ℕ) (rest : List ℕ) (h g : History) → name ≤ revision_of h → StandsIn (counts_held h) name (whole_lines (text name)) → IsEndOf (text name) rest → IsAlong h (whole_lines rest) g → FollowsInTurn text (name ∷ []) h g
-obeys_in text name rest h g begun stands end along = inr (
-  g,
-  record {
-    begun = begun;
-    stands = stands;
-    before = whole_lines end.front;
-    obeyed = along.before;
-    later = along.later;
-    parts = ap whole_lines end.parts ∙ whole_both end.front rest end.whole ∙ ap (λ (ls : List (List ℕ)). whole_lines end.front ++ ls) along.parts;
-    leads = along.so_far;
-  },
-  refl,
-)
+obeys_in text name rest h g begun stands end along =
+    let lines : whole_lines (text name) ≡ whole_lines end.front ++ whole_lines rest = ap whole_lines end.parts ∙ whole_both end.front rest end.whole in
+    let later : drop (length (whole_lines end.front)) (whole_lines (text name)) ≡ whole_lines rest = ap (λ (ls : List (List ℕ)). drop (length (whole_lines end.front)) ls) lines ∙ drop_at (whole_lines end.front) (whole_lines rest) (length (whole_lines end.front)) refl in
+    let first : take (length along.before) (drop (length (whole_lines end.front)) (whole_lines (text name))) ≡ along.before =
+    ap (λ (ls : List (List ℕ)). take (length along.before) ls) (later ∙ along.parts) ∙ take_at along.before along.later (length along.before) refl in
+    inr (begun, stands, length (whole_lines end.front), g, (length along.before, ap (history_after h) first ∙ along.so_far), refl)
 
 pub all_along : (h : History) (lines : List (List ℕ)) → IsAlong h lines (history_after h lines)
 all_along h lines = record { before = lines; later = []; parts = sym (append-nil lines); so_far = refl }

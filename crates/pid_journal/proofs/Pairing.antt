@@ -1,5 +1,5 @@
 -- A registry with a journal in front of it is a registry under moderation.
-use Rattle.std.proofs.Common.{◌≡◌, inl, inr, Bool, true, false, [], Result, Err, refl, sym, ap, subst}
+use Rattle.std.proofs.Common.{◌≡◌, inl, inr, Bool, true, false, ◌++◌, Some, Result, Err, refl, sym, ap, subst}
 use Rattle.pid_moderation.specs.declared.command.Reply.{Reply}
 use Rattle.pid_moderation.specs.declared.refusal.Refusal.{Refusal}
 use Rattle.pid_moderation.specs.declared.refusal.Refusal.TheVariants.{Failed}
@@ -42,11 +42,11 @@ module _ {R J : Type 0} (registry : Ghosts R) (file : files.Ghosts J) where
   pub still_shows : (start h : History) (p : Journaled R J) (r : R) → PairShows registry file start p h → registry.showing.shows r h → PairShows registry file start (with_registry p r) h
   still_shows start h p r shows shown = record { shown = shown; settled = shows.settled; text = shows.text; safe = shows.safe; leads = shows.leads }
 
-  still_fails : (start h next : History) (p : Journaled R J) (r : R) (fails : PairFailsBetween registry file start p h next) → fails.doubt.left.gone ≡ [] → registry.showing.fails_between r h next → PairFailsBetween registry file start (with_registry p r) h next
+  still_fails : (start h next : History) (p : Journaled R J) (r : R) (fails : PairFailsBetween registry file start p h next) → file.safe p.journal ≡ Some (fails.doubt.text ++ fails.doubt.more) → registry.showing.fails_between r h next → PairFailsBetween registry file start (with_registry p r) h next
   still_fails start h next p r fails none down = record { doubt = fails.doubt; fails = inr (none, down) }
 
   -- what failed between two and has no entry left
-  registry_fails : (start h next : History) (p : Journaled R J) (fails : PairFailsBetween registry file start p h next) → p.failed ≡ false → (fails.doubt.left.gone ≡ []) × registry.showing.fails_between p.registry h next
+  registry_fails : (start h next : History) (p : Journaled R J) (fails : PairFailsBetween registry file start p h next) → p.failed ≡ false → (file.safe p.journal ≡ Some (fails.doubt.text ++ fails.doubt.more)) × registry.showing.fails_between p.registry h next
   registry_fails start h next p fails settled = elim fails.fails [ inl left ↦ absurd (not_both p.failed left.0 settled) | inr down ↦ down ]
 
   -- the registry was asked

@@ -1,5 +1,5 @@
 -- What the text of a journal says as a script.
-use Rattle.std.proofs.Common.{◌≡◌, ◌⊎◌, inl, inr, ℕ, Bool, false, List, [], ◌∷◌, ◌++◌, map, Some, refl, sym, ap, subst, ◌∙◌, append-nil}
+use Rattle.std.proofs.Common.{◌≡◌, ◌⊎◌, inl, inr, ℕ, Bool, false, List, [], ◌∷◌, ◌++◌, map, take, drop, take-append-drop, Some, refl, sym, ap, subst, ◌∙◌, append-nil}
 use Rattle.pid_file.proofs.Cuts.{ended_more, lines_split, map_append}
 use Rattle.pid_file.specs.Lines.{drop_cr, lines_of}
 use Rattle.pid_file.specs.WholeLines.{ended_pieces, open_part, whole_lines}
@@ -62,16 +62,16 @@ part_leads h next part gone (inr (inr mark, same)) =
 same_some : (a b : List ℕ) → Some a ≡ Some b → a ≡ b
 same_some a b is = cc
 
-doubt_parts : (start h next : History) (text : List ℕ) (doubt : IsInDoubt start (Some text) h next) → text ≡ doubt.text ++ doubt.left.part
-doubt_parts start h next text doubt = same_some text (doubt.text ++ doubt.left.part) doubt.left.left
+doubt_parts : (start h next : History) (text : List ℕ) (doubt : IsInDoubt start (Some text) h next) → text ≡ doubt.text ++ (take doubt.left.0 doubt.more)
+doubt_parts start h next text doubt = same_some text (doubt.text ++ (take doubt.left.0 doubt.more)) doubt.left.1
 
-doubt_leads : (start h next : History) (text : List ℕ) (doubt : IsInDoubt start (Some text) h next) → EntryLeads (doubt.left.part ++ doubt.left.gone) h next
-doubt_leads start h next text doubt = subst (λ (l : List ℕ). EntryLeads l h next) doubt.left.parts doubt.last
+doubt_leads : (start h next : History) (text : List ℕ) (doubt : IsInDoubt start (Some text) h next) → EntryLeads ((take doubt.left.0 doubt.more) ++ (drop doubt.left.0 doubt.more)) h next
+doubt_leads start h next text doubt = subst (λ (l : List ℕ). EntryLeads l h next) (sym (take-append-drop doubt.left.0 doubt.more)) doubt.last
 
 pub either : DoubtsLeaveEither
 either start h next text doubt =
-    let joined = joined_history start h text doubt.text doubt.left.part (doubt_parts start h next text doubt) doubt.leads in
-    elim (part_leads h next doubt.left.part doubt.left.gone (doubt_leads start h next text doubt)) [
+    let joined = joined_history start h text doubt.text (take doubt.left.0 doubt.more) (doubt_parts start h next text doubt) doubt.leads in
+    elim (part_leads h next (take doubt.left.0 doubt.more) (drop doubt.left.0 doubt.more) (doubt_leads start h next text doubt)) [
       | inl same ↦ inl (joined ∙ same)
       | inr one ↦ inr (joined ∙ one)
     ]
@@ -83,28 +83,27 @@ true_front [] ys h noted all = tt
 true_front (x ∷ xs) ys h noted all = (all.0, all.1, true_front xs ys (after_line h x) (noted_after noted x) all.2)
 
 -- the comments of a journal and of a part of an entry
-part_true : (start h next : History) (text : List ℕ) (doubt : IsInDoubt start (Some text) h next) → AreTrue start false (whole_lines doubt.text ++ whole_lines doubt.left.part)
+part_true : (start h next : History) (text : List ℕ) (doubt : IsInDoubt start (Some text) h next) → AreTrue start false (whole_lines doubt.text ++ whole_lines (take doubt.left.0 doubt.more))
 part_true start h next text doubt =
-    let part = doubt.left.part in
-    let rest = map drop_cr (ended_pieces (open_part part ++ doubt.left.gone)) in
+    let part = (take doubt.left.0 doubt.more) in
+    let rest = map drop_cr (ended_pieces (open_part part ++ (drop doubt.left.0 doubt.more))) in
     true_both (whole_lines doubt.text) (whole_lines part) start false doubt.leads.told (λ m. subst (λ (g : History). AreTrue g m (whole_lines part)) (sym doubt.leads.leads)
-    (true_front (whole_lines part) rest h m (subst (λ (ls : List (List ℕ)). AreTrue h m ls) (sym (part_lines part doubt.left.gone)) (on_true h next m (part ++ doubt.left.gone) (doubt_leads start h next text doubt)))))
+    (true_front (whole_lines part) rest h m (subst (λ (ls : List (List ℕ)). AreTrue h m ls) (sym (part_lines part (drop doubt.left.0 doubt.more))) (on_true h next m (part ++ (drop doubt.left.0 doubt.more)) (doubt_leads start h next text doubt)))))
 
-doubt_lines : (start h next : History) (text : List ℕ) (doubt : IsInDoubt start (Some text) h next) → whole_lines text ≡ whole_lines doubt.text ++ whole_lines doubt.left.part
-doubt_lines start h next text doubt = ap whole_lines (doubt_parts start h next text doubt) ∙ whole_both doubt.text doubt.left.part doubt.leads.whole
+doubt_lines : (start h next : History) (text : List ℕ) (doubt : IsInDoubt start (Some text) h next) → whole_lines text ≡ whole_lines doubt.text ++ whole_lines (take doubt.left.0 doubt.more)
+doubt_lines start h next text doubt = ap whole_lines (doubt_parts start h next text doubt) ∙ whole_both doubt.text (take doubt.left.0 doubt.more) doubt.leads.whole
 
-pub doubts : (start h next : History) (text : List ℕ) (doubt : IsInDoubt start (Some text) h next) → IsOnWay start false (whole_lines text) h × (doubt.left.gone ≡ [] → IsOnWay start false (whole_lines text) next)
+pub doubts : (start h next : History) (text : List ℕ) (doubt : IsInDoubt start (Some text) h next) → IsOnWay start false (whole_lines text) h × (text ≡ doubt.text ++ doubt.more → IsOnWay start false (whole_lines text) next)
 doubts start h next text doubt =
     let lines = doubt_lines start h next text doubt in
     let told = subst (λ (ls : List (List ℕ)). AreTrue start false ls) (sym lines) (part_true start h next text doubt) in (
-      record { told = told; before = whole_lines doubt.text; later = whole_lines doubt.left.part; parts = lines; so_far = doubt.leads.leads },
-      λ none. record {
+      record { told = told; before = whole_lines doubt.text; later = whole_lines (take doubt.left.0 doubt.more); parts = lines; so_far = doubt.leads.leads },
+      λ whole. record {
         told = told;
         before = whole_lines text;
         later = [];
         parts = sym (append-nil (whole_lines text));
         so_far =
-            joined_history start h text doubt.text doubt.left.part (doubt_parts start h next text doubt) doubt.leads
-            ∙ on_leads h next doubt.left.part (subst (λ (l : List ℕ). EntryLeads l h next) (ap (λ (l : List ℕ). doubt.left.part ++ l) none ∙ append-nil doubt.left.part) (doubt_leads start h next text doubt));
+            joined_history start h text doubt.text doubt.more whole doubt.leads ∙ on_leads h next doubt.more doubt.last;
       },
     )

@@ -1,13 +1,13 @@
 -- What a stop leaves of a journal of segments.
-use Rattle.std.proofs.Common.{◌≡◌, inl, inr, ℕ, false, List, [], ◌∷◌, ◌++◌, sym, ap, subst, ◌∙◌, append_assoc, append-nil}
+use Rattle.std.proofs.Common.{◌≡◌, inl, inr, ℕ, false, List, [], ◌∷◌, ◌++◌, take, drop, take-append-drop, sym, ap, subst, ◌∙◌, append_assoc, append-nil}
 use Rattle.pid_file.specs.WholeLines.{whole_lines}
 use Rattle.pid_moderation.specs.History.{History}
 use Rattle.pid_moderation.specs.Views.{revision_of}
 use Rattle.pid_script.specs.Replies.{history_after}
-use Rattle.pid_journal.specs.Journals.{AreTrue, AreSegments, IsOnSegments, lines_in}
+use Rattle.pid_journal.specs.Journals.{AreTrue, AreSegments, IsOnSegments, IsPassed, lines_in}
 use Rattle.pid_journal.specs.Laws.{StopsLeaveTheWay}
 use Rattle.pid_journal.specs.Steps.Ways.{IsAlong, IsInSegments, IsOnWay}
-use Rattle.pid_journal.proofs.Along.{along_segments, in_segments, on_segments}
+use Rattle.pid_journal.proofs.Along.{along_segments, on_segments}
 use Rattle.pid_journal.proofs.InTurn.{lines_both}
 use Rattle.pid_journal.proofs.Appending.{history_both}
 use Rattle.pid_journal.proofs.Scripts.{doubts}
@@ -32,15 +32,14 @@ on_last start g text front name told way = record {
   so_far = history_both start (lines_in text front) way.before ∙ way.so_far;
 }
 
--- what was on the way of the first lines
-on_more : (old text : ℕ → List ℕ) (start g : History) (names all : List ℕ) (more : List (List ℕ)) → AreSegments text start all → IsOnSegments old start names g → lines_in text all ≡ lines_in old names ++ more → IsOnSegments text start all g
-on_more old text start g names all more told on grows =
-    let way = in_segments old start g names on in
+-- what is along the first lines
+on_more : (text : ℕ → List ℕ) (start g : History) (all : List ℕ) (before more : List (List ℕ)) → AreSegments text start all → IsPassed start before g → lines_in text all ≡ before ++ more → IsOnSegments text start all g
+on_more text start g all before more told (n, so_far) grows =
     let along : IsAlong start (lines_in text all) g = record {
-      before = way.before;
-      later = way.later ++ more;
-      parts = grows ∙ ap (λ (ls : List (List ℕ)). ls ++ more) way.parts ∙ append_assoc way.before way.later more;
-      so_far = way.so_far;
+      before = take n before;
+      later = drop n before ++ more;
+      parts = grows ∙ ap (λ (ls : List (List ℕ)). ls ++ more) (sym (take-append-drop n before)) ∙ append_assoc (take n before) (drop n before) more;
+      so_far = so_far;
     } in
     along_segments text start g all told along
 
@@ -51,5 +50,5 @@ stops start h next g text front name told is doubt on =
     elim on [
       | inl same ↦ subst (IsOnSegments text start (front ++ name ∷ [])) (sym same) (on_segments text start h (front ++ name ∷ []) (on_last start h text front name all ways.0))
       | inr (inl (none, same)) ↦ subst (IsOnSegments text start (front ++ name ∷ [])) (sym same) (on_segments text start next (front ++ name ∷ []) (on_last start next text front name all (ways.1 none)))
-      | inr (inr (old, names, more, way, grows)) ↦ on_more old text start g names (front ++ name ∷ []) more all way grows
+      | inr (inr (before, more, way, grows)) ↦ on_more text start g (front ++ name ∷ []) before more all way grows
     ]

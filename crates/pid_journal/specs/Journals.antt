@@ -81,7 +81,10 @@ AreSegments text h [] = Unit {0}
 AreSegments text h (name ∷ names) = (revision_of h ≡ name) × AreTrue h false (whole_lines (text name))
     × AreSegments text (history_after h (whole_lines (text name))) names
 
--- The history is one on the way along which the segments lead: the one after some of the first lines.
+-- The history is one along the lines: the one after some of the first.
+abbrev pub IsPassed : History → List (List ℕ) → History → Type 0
+IsPassed start lines h = (n : ℕ) × (history_after start (take n lines) ≡ h)
+
+-- it is one on the way along which segments lead
 abbrev pub IsOnSegments : (ℕ → List ℕ) → History → List ℕ → History → Type 0
-IsOnSegments text start names h = AreSegments text start names
-    × ((n : ℕ) × (history_after start (take n (lines_in text names)) ≡ h))
+IsOnSegments text start names h = AreSegments text start names × IsPassed start (lines_in text names) h

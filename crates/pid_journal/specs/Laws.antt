@@ -8,7 +8,8 @@ use Rattle.pid_moderation.specs.Judgement.{answer, judge}
 use Rattle.pid_moderation.specs.ReplyLines.{outcome_line}
 use Rattle.pid_moderation.specs.Views.{revision_of, views_of}
 use Rattle.pid_script.specs.Replies.{history_after, replies}
-use Rattle.pid_journal.specs.Journals.{counts_held, IsEntry, IsNote, JournalLeads, AreSegments, IsOnSegments, lines_in}
+use Rattle.pid_journal.specs.Journals.{counts_held, IsEntry, IsNote, JournalLeads}
+use Rattle.pid_journal.specs.Journals.{AreSegments, IsOnSegments, IsPassed, lines_in}
 use Rattle.pid_journal.specs.Doubts.{IsInDoubt}
 
 -- as a script, the text of a journal leads from the one history to the other
@@ -27,13 +28,12 @@ abbrev pub DoubtsLeaveEither : Type 0
 DoubtsLeaveEither = (start h next : History) (text : List ℕ) → IsInDoubt start (Some text) h next
     → (history_after start (whole_lines text) ≡ h) ⊎ (history_after start (whole_lines text) ≡ next)
 
--- Where a journal goes on in its last segment, or in a new one, and stops at an entry, maybe within
--- it, what registries show is on its way: the history before that entry; if it is whole the one after
--- it; and what was on the way of the lines that the journal had before.
+-- Where a journal stops in its last segment, maybe within an entry, what registries show is on its way: the
+-- history before that entry; if it is whole the one after it; and any along the lines that it had before.
 abbrev pub StopsLeaveTheWay : Type 0
 StopsLeaveTheWay = (start h next g : History) (text : ℕ → List ℕ) (front : List ℕ) (name : ℕ)
     → AreSegments text start front → revision_of (history_after start (lines_in text front)) ≡ name
     → (doubt : IsInDoubt (history_after start (lines_in text front)) (Some (text name)) h next)
-    → (g ≡ h) ⊎ (((doubt.left.gone ≡ []) × (g ≡ next)) ⊎ ((old : ℕ → List ℕ) × (names : List ℕ) × (more : List (List ℕ))
-    × IsOnSegments old start names g × (lines_in text (front ++ name ∷ []) ≡ lines_in old names ++ more)))
+    → (g ≡ h) ⊎ (((text name ≡ doubt.text ++ doubt.more) × (g ≡ next)) ⊎ ((old : List (List ℕ))
+    × (more : List (List ℕ)) × IsPassed start old g × (lines_in text (front ++ name ∷ []) ≡ old ++ more)))
     → IsOnSegments text start (front ++ name ∷ []) g

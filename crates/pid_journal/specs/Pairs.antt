@@ -35,7 +35,7 @@ module _ {R J : Type 0} (registry : Ghosts R) (file : files.Ghosts J) where
   pub record PairFailsBetween (start : History) (p : Journaled R J) (h next : History) : Type 0 where
     pub doubt : IsInDoubt start (file.safe p.journal) h next
     pub fails : ((p.failed ≡ true) × registry.showing.shows p.registry h)
-        ⊎ ((doubt.left.gone ≡ []) × registry.showing.fails_between p.registry h next)
+        ⊎ ((file.safe p.journal ≡ Some (doubt.text ++ doubt.more)) × registry.showing.fails_between p.registry h next)
 
   -- The relations by which sessions describe it, wherever its journal begins. Questions, look-ups
   -- and exports leave the journal as it is.
@@ -53,15 +53,13 @@ module _ {R J : Type 0} (registry : Ghosts R) (file : files.Ghosts J) where
       → CommandLeaves (record pair_showing { shows = PairShows start; fails_between = PairFailsBetween start })
       result new h c
 
--- What is there stays. An entry of the command may come to it, with a mark or without one; or at a fault a
--- prefix of an entry.
-abbrev pub AddsEntry : (old now : Option (List ℕ)) → Asked → Result Reply Refusal → Type 0
-AddsEntry old now c result = (text : List ℕ) → old ≡ Some text → (now ≡ Some text)
-    ⊎ ((entry : List ℕ) × (counts : Counts) × IsEntry entry counts c × ((now ≡ Some (text ++ entry))
-    ⊎ (((mark : List ℕ) × (held : Counts) × IsNote mark held [] × (now ≡ Some (text ++ entry ++ mark)))
-    ⊎ (IsErr result × LeavesPart now text entry))))
-
 -- To what is there a mark may come, and nothing else.
 abbrev pub AddsMark : List ℕ → Option (List ℕ) → Type 0
 AddsMark text now = (mark : List ℕ) × (now ≡ Some (text ++ mark))
     × ((mark ≡ []) ⊎ ((counts : Counts) × IsNote mark counts []))
+
+-- What is there stays. An entry of the command may come to it, and a mark; or at a fault a prefix of an entry.
+abbrev pub AddsEntry : (old now : Option (List ℕ)) → Asked → Result Reply Refusal → Type 0
+AddsEntry old now c result = (text : List ℕ) → old ≡ Some text → (now ≡ Some text)
+    ⊎ ((entry : List ℕ) × (counts : Counts) × IsEntry entry counts c
+    × (AddsMark (text ++ entry) now ⊎ (IsErr result × LeavesPart now text entry)))

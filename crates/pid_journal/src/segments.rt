@@ -17,7 +17,7 @@ ghost use Rattle.std.specs.Prelude.{
 ghost use Rattle.std.specs.Ordering.{nat_cmp};
 ghost use Rattle.pid_journal.specs.Openings.{IsRefused};
 ghost use Rattle.pid_journal.specs.Steps.Comparing.{BringsOn, ComparesAll, SkipsLate};
-ghost use Rattle.pid_journal.specs.Steps.Reads.{EndsAll};
+ghost use Rattle.pid_journal.specs.Steps.Reads.{EndsAtLast};
 ghost use Rattle.pid_journal.specs.Steps.Segments.{
   AsksRevision,
   FollowsAll,
@@ -126,7 +126,7 @@ pub(crate) fn follow_all<R: RegistryQueries, F: JournalFolder>(
         folder.new begins.now result }
     ensures followed { FollowsAll R.RegistryCalls F.JournalFolder registry.old registry.new
         folder.old begins.now result }
-    ensures ended { IfOk result (EndsAll F.JournalFolder folder.old begins.now) }
+    ensures ended { IfOk result (EndsAtLast F.JournalFolder folder.old begins.now) }
     ensures compared { ComparesAll R.showing F.JournalFolder registry.old registry.new folder.old
         begins.now result }
     ensures come { IfErr result (λ fault. fault ≡ OpenFault.Newer

@@ -1,5 +1,5 @@
 -- The counts that a journal says, compared with those of a registry.
-use Rattle.std.specs.Prelude.{◌≡◌, ◌⊎◌, ◌<◌, ◌≤◌, ℕ, Bool, true, false, List, [], ◌∷◌, ◌++◌, Option, Some, None, IfSome}
+use Rattle.std.specs.Prelude.{◌≡◌, ◌≢◌, ◌⊎◌, ◌<◌, ◌≤◌, ℕ, Bool, true, false, List, [], ◌∷◌, ◌++◌, Option, Some}
 use Rattle.std.specs.Prelude.{Result, MatchResult}
 use Rattle.pid_file.specs.WholeLines.{whole_lines}
 use Rattle.pid_moderation.specs.History.{History}
@@ -15,33 +15,36 @@ use Rattle.pid_journal.specs.declared.placing.LineCounts.{LineCounts}
 use Rattle.pid_journal.specs.declared.placing.Step.{Step}
 use Rattle.pid_journal.specs.declared.placing.Step.TheVariants.{Here, Behind, Nowhere}
 use Rattle.pid_journal.specs.Journals.{counts_held}
-use Rattle.pid_journal.specs.Openings.{HaveNotes, AreOthers, IsNewerThan, IsRefused, StandsIn, compared}
+use Rattle.pid_journal.specs.Openings.{HaveNotes, IsNewerThan, IsRefused, StandsIn, said_since}
 use Rattle.pid_journal.specs.Openings.{FollowsInTurn, StopsAtOne, revision_after}
 use Rattle.pid_journal.specs.Steps.Places.{IsSaid}
 use Rattle.pid_journal.specs.Steps.Segments.{HasBegun, IsSameFolder, StaysOrMoved}
 
--- The counts so far are older than the registry, and have the greatest revision that is allowed here.
-abbrev pub IsOlderAt : Option Counts → Counts → Place → Type 0
-IsOlderAt last now place = IfSome last (λ k. (place.most ≡ k.revision) × (k.revision < now.revision))
-    × (place.noted ≡ true → place.most < now.revision)
+-- no older counts, and others
+abbrev pub AreOthers : Counts → Option Counts → Type 0
+AreOthers now said = (k : Counts) × (said ≡ Some k) × (k ≢ now)
 
-abbrev pub ComparesOn : Step → Counts → Option Counts → Place → List ℕ → List (List ℕ) → Type 0
-ComparesOn Here now last place line lines = compared now last (line ∷ lines) ≡ Some now
-ComparesOn (Behind next) now last place line lines = (more : Option Counts) × IsOlderAt more now next
-    × (compared now last (line ∷ lines) ≡ compared now more lines)
+-- the counts of a comment, below which this is, are older than the registry
+abbrev pub IsOlderAt : Counts → Place → Type 0
+IsOlderAt now place = place.noted ≡ true → place.most < now.revision
+
+abbrev pub ComparesOn : Step → Counts → Place → List ℕ → List (List ℕ) → Type 0
+ComparesOn Here now place line lines = said_since now.revision (line ∷ lines) ≡ Some now
+ComparesOn (Behind next) now place line lines = IsOlderAt now next
+    × (said_since now.revision (line ∷ lines) ≡ said_since now.revision lines)
     × (revision_after place.most (line ∷ lines) ≡ revision_after next.most lines)
     × (HaveNotes place.noted (line ∷ lines) → HaveNotes next.noted lines)
-ComparesOn Nowhere now last place line lines = HaveNotes place.noted (line ∷ lines)
-    → AreOthers now (compared now last (line ∷ lines))
+ComparesOn Nowhere now place line lines = HaveNotes place.noted (line ∷ lines)
+    → AreOthers now (said_since now.revision (line ∷ lines))
 
 abbrev pub ComparesLine : LineCounts → Counts → Place → Step → Type 0
-ComparesLine said now place step = (last : Option Counts) (line : List ℕ) (lines : List (List ℕ))
-    → IsSaid line said → IsOlderAt last now place → ComparesOn step now last place line lines
+ComparesLine said now place step = (line : List ℕ) (lines : List (List ℕ))
+    → IsSaid line said → IsOlderAt now place → ComparesOn step now place line lines
 
 -- what a fault says of a registry that has come to the segment
 abbrev pub FaultsAt : OpenFault → Counts → ℕ → List (List ℕ) → Type 0
 FaultsAt (Refused refusal) now begin lines = Unit {0}
-FaultsAt Another now begin lines = HaveNotes false lines → AreOthers now (compared now None lines)
+FaultsAt Another now begin lines = HaveNotes false lines → AreOthers now (said_since now.revision lines)
 FaultsAt Newer now begin lines = IsNewerThan now begin lines
 FaultsAt Missing now begin lines = ⊥
 
@@ -55,8 +58,8 @@ FitsGap gap now begin lines = (gap ≡ false → StandsIn now begin lines)
     × (gap ≡ true → IsNewerThan now begin lines)
 
 abbrev pub RefusesOther : OpenFault → Counts → ℕ → List (List ℕ) → Type 0
-RefusesOther fault now begin lines = ((fault ≡ Another) × FaultsAt Another now begin lines)
-    ⊎ IsRefused fault
+RefusesOther fault now begin lines = IsRefused fault ⊎ ((fault ≡ Another) × (HaveNotes false lines
+    → (StandsIn now begin lines → ⊥) × (IsNewerThan now begin lines → ⊥)))
 
 module _ {R : Type 0} (w : Showing R) where
   -- a registry that has come to the beginning of the next segment
@@ -85,10 +88,16 @@ module _ {R : Type 0} (w : Showing R) where
     ComparesAll old new f names result = MatchResult result (λ x. OfLast old new f names StandsIn)
         (λ fault. OfLast old new f names (FaultsAt fault))
 
+    -- the same, where it is enough that the last one has begun
+    abbrev pub OfBegun : R → R → F → List ℕ → (Counts → ℕ → List (List ℕ) → Type 0) → Type 0
+    OfBegun old new f names P = w.is_clean new → (front : List ℕ) (name : ℕ)
+        → names ≡ front ++ name ∷ [] → folder.names f ≡ Some names → (h : History) → w.shows old h
+        → name ≤ revision_of h → P (counts_held h) name (whole_lines (folder.text_in f name))
+
     abbrev pub ComparesGap : {X : Type 0} → R → R → F → Result (X × Bool) OpenFault → Type 0
     ComparesGap old new f result = (names : List ℕ) → folder.names f ≡ Some names
-        → MatchResult result (λ found. OfLast old new f names (FitsGap found.1))
-        (λ fault. OfLast old new f names (RefusesOther fault))
+        → MatchResult result (λ found. OfBegun old new f names (FitsGap found.1))
+        (λ fault. OfBegun old new f names (RefusesOther fault))
 
     -- What was obeyed are lines of these segments that have begun, in which the registry was.
     abbrev pub ObeysSome : {X : Type 0} → R → R → F → List ℕ → Result X OpenFault → Type 0

@@ -41,6 +41,6 @@ module _ {F J : Type 0} (folder : folders.Ghosts F J) where
   EndsAt f t = OfText f t (λ all. IsOpenEnd all (held_of t))
 
   -- the same of the last one of these
-  abbrev pub EndsAll : F → List ℕ → Option SegmentText → Type 0
-  EndsAll f names None = names ≡ []
-  EndsAll f names (Some t) = (front : List ℕ) × (names ≡ front ++ t.begin ∷ []) × EndsAt f t
+  abbrev pub EndsAtLast : F → List ℕ → Option SegmentText → Type 0
+  EndsAtLast f names None = names ≡ []
+  EndsAtLast f names (Some t) = (front : List ℕ) × (names ≡ front ++ t.begin ∷ []) × EndsAt f t

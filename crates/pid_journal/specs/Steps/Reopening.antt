@@ -18,8 +18,8 @@ use Rattle.pid_journal.specs.Pairs.{AddsMark}
 use Rattle.pid_journal.specs.Steps.Parts.{MayBeMarked}
 use Rattle.pid_journal.specs.Steps.Places.{IsOpenEnd}
 use Rattle.pid_journal.specs.Steps.Reads.{EndsAt, held_of}
-use Rattle.pid_journal.specs.Steps.Segments.{FaultsAlong, HandsOut, HasComeToLast, IsLateFault, IsSameFolder, KeepsLines}
-use Rattle.pid_journal.specs.Steps.Segments.{KeepsShown, LinesMayBeObeyed, MayBegin, ShowsWithin}
+use Rattle.pid_journal.specs.Steps.Segments.{FaultsAlong, HandsOut, HasComeToLast, IsLateFault, IsSameFolder}
+use Rattle.pid_journal.specs.Steps.Segments.{KeepsLines, KeepsShown, LinesMayBeObeyed, MayBegin, ShowsWithin}
 
 module _ {F J : Type 0} (folder : folders.Ghosts F J) where
   -- Of a segment that was read to its end the whole lines are left.
@@ -32,7 +32,8 @@ module _ {F J : Type 0} (folder : folders.Ghosts F J) where
     pub fault : IfErr result IsRefused
 
 -- the text that is known, and maybe a mark, which says what the registry holds
-abbrev pub EndsMarked : {R F J : Type 0} → Showing R → folders.Ghosts F J → files.Ghosts J → (old new : R) → F → SegmentText → J → Type 0
+abbrev pub EndsMarked : {R F J : Type 0} → Showing R → folders.Ghosts F J → files.Ghosts J
+    → (old new : R) → F → SegmentText → J → Type 0
 EndsMarked w folder file old new f t k = (names : List ℕ) → folder.names f ≡ Some names
     → MayBeMarked w old new (Some (folder.text_in f t.begin)) (file.safe k)
 

@@ -1,6 +1,9 @@
-use Rattle.std.proofs.Common.{Ok, inl, refl, rules, ◌∙◌}
+use Rattle.std.proofs.Common.{ℕ, List, Ok, false, true, inl, refl, rules, subst, ◌∙◌}
+use Rattle.std.specs.Prelude.{IsSorted}
+use Rattle.std.specs.Ordering.{nat_cmp}
+use Rattle.pid_journal.specs.Steps.Comparing.{FitsGap, RefusesOther}
 use Rattle.pid_journal.specs.Steps.Segments.{IsSameFolder}
-use Rattle.pid_journal.proofs.Comparing.{finds_fault, finds_newer, finds_refused, finds_same}
+use Rattle.pid_journal.proofs.Comparing.{finds_fault, finds_newer, finds_refused, finds_same, last_begun}
 use Rattle.pid_journal.proofs.Along.{segments_along, stops_at}
 use Rattle.pid_journal.proofs.Ending.{fault_found, found, gap_found, hands_new, hands_on, hands_then, and_same, ends_from, keeps_after, keeps_same}
 use Rattle.pid_journal.proofs.InTurn.{at_folder, ends_at, first_found, quiet_newer, read_names}
@@ -82,20 +85,23 @@ returns-in-Err-clause-compared g c names known = finds_refused g.R.RegistryCalls
 
 pub returns-in-Err-follow_all-clause-compared : goal.returns-in-Err-follow_all-clause-compared
 returns-in-Err-follow_all-clause-compared g c names known =
-    finds_fault g.R.RegistryCalls.showing g.F.JournalFolder c.args.registry.now c.follow_all.new.registry c.follow_all.new.registry c.args.folder.now c.begins.new.self names c.as_slice.result.now c.in-Err-follow_all.fault c.begins.ensures.same (c.as_slice.ensures.value ∙ read_names (g.F.JournalFolder.names c.args.folder.now) names c.in-Ok.begins.items known c.in-Ok.ensures.read)
-    (λ clean. clean) (search rules) c.in-Err-follow_all.ensures.compared
+    let is = c.as_slice.ensures.value ∙ read_names (g.F.JournalFolder.names c.args.folder.now) names c.in-Ok.begins.items known c.in-Ok.ensures.read in
+    last_begun g.R.RegistryCalls.showing g.F.JournalFolder c.args.registry.now c.follow_all.new.registry c.args.folder.now names (RefusesOther c.in-Err-follow_all.fault) (subst (λ (ns : List ℕ). IsSorted nat_cmp ns) is (rw c.as_slice.ensures.value c.in-Ok.ensures.ascending))
+    (finds_fault g.R.RegistryCalls.showing g.F.JournalFolder c.args.registry.now c.follow_all.new.registry c.follow_all.new.registry c.args.folder.now c.begins.new.self names c.as_slice.result.now c.in-Err-follow_all.fault c.begins.ensures.same is (λ clean. clean) (search rules) c.in-Err-follow_all.ensures.compared)
 
 pub returns-in-Ok-segment_after-clause-compared : goal.returns-in-Ok-segment_after-clause-compared
 returns-in-Ok-segment_after-clause-compared g c names known =
-    finds_same g.R.RegistryCalls.showing g.F.JournalFolder c.args.registry.now c.follow_all.new.registry c.segment_after.new.registry c.args.folder.now c.begins.new.self names c.as_slice.result.now c.begins.ensures.same (c.as_slice.ensures.value ∙ read_names (g.F.JournalFolder.names c.args.folder.now) names c.in-Ok.begins.items known c.in-Ok.ensures.read)
-    c.segment_after.ensures.honest c.in-Ok-follow_all.ensures.compared
+    let is = c.as_slice.ensures.value ∙ read_names (g.F.JournalFolder.names c.args.folder.now) names c.in-Ok.begins.items known c.in-Ok.ensures.read in
+    last_begun g.R.RegistryCalls.showing g.F.JournalFolder c.args.registry.now c.segment_after.new.registry c.args.folder.now names (FitsGap false) (subst (λ (ns : List ℕ). IsSorted nat_cmp ns) is (rw c.as_slice.ensures.value c.in-Ok.ensures.ascending))
+    (finds_same g.R.RegistryCalls.showing g.F.JournalFolder c.args.registry.now c.follow_all.new.registry c.segment_after.new.registry c.args.folder.now c.begins.new.self names c.as_slice.result.now c.begins.ensures.same is c.segment_after.ensures.honest c.in-Ok-follow_all.ensures.compared)
 
 pub returns-in-Err-Newer-clause-compared : goal.returns-in-Err-Newer-clause-compared
 returns-in-Err-Newer-clause-compared g c names known =
+    let is = c.as_slice.ensures.value ∙ read_names (g.F.JournalFolder.names c.args.folder.now) names c.in-Ok.begins.items known c.in-Ok.ensures.read in
     elim c.match-begin_segment.branch [
       | in-Ok-begin_segment w ↦
-          rw w.result-is (finds_newer g.R.RegistryCalls.showing g.F.JournalFolder c.args.registry.now c.follow_all.new.registry c.begin_segment.new.registry c.args.folder.now c.begins.new.self names c.as_slice.result.now c.begins.ensures.same
-          (c.as_slice.ensures.value ∙ read_names (g.F.JournalFolder.names c.args.folder.now) names c.in-Ok.begins.items known c.in-Ok.ensures.read) c.begin_segment.ensures.honest (rw c.in-Err-Newer.field-0-is at c.in-Err-Newer.ensures.compared))
+          rw w.result-is (last_begun g.R.RegistryCalls.showing g.F.JournalFolder c.args.registry.now c.begin_segment.new.registry c.args.folder.now names (FitsGap true) (subst (λ (ns : List ℕ). IsSorted nat_cmp ns) is (rw c.as_slice.ensures.value c.in-Ok.ensures.ascending))
+          (finds_newer g.R.RegistryCalls.showing g.F.JournalFolder c.args.registry.now c.follow_all.new.registry c.begin_segment.new.registry c.args.folder.now c.begins.new.self names c.as_slice.result.now c.begins.ensures.same is c.begin_segment.ensures.honest (rw c.in-Err-Newer.field-0-is at c.in-Err-Newer.ensures.compared)))
       | in-Err-begin_segment w ↦ rw w.result-is (finds_refused g.R.RegistryCalls.showing g.F.JournalFolder c.args.registry.now c.begin_segment.new.registry c.args.folder.now names w.in-Err-begin_segment.fault w.in-Err-begin_segment.ensures.fault.0)
     ]
 

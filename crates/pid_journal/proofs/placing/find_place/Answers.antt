@@ -31,7 +31,7 @@ loop-turn-preserved g c = record {
         found_on text rest line behind c.args.now c.args.begin c.loop-turn.place c.in-Behind.next finds.0 taken.parts taken.one
             (λ shown h is placed. c.in-Behind.ensures.next shown h (drop_cr line) (whole_lines behind) is said placed),
         compares_on text rest behind (drop_cr line) c.args.now c.args.begin c.loop-turn.place c.in-Behind.next finds.1 (line_first rest line behind taken.parts taken.one)
-            (c.in-Behind.ensures.compared finds.1.last (drop_cr line) (whole_lines behind) said finds.1.is),
+            (c.in-Behind.ensures.compared (drop_cr line) (whole_lines behind) said finds.1.is),
       );
 }
 
@@ -82,7 +82,7 @@ returns-in-Here-clause-compared g c names known =
     let taken = text_then g.F.JournalFolder c.args.folder.now c.loop-turn.folder c.args.text.now c.loop-turn.text (λ x. IsLine (left_in c.loop-turn.text x) line (left_in c.take_line.new.self x)) c.loop-turn.invariant.reads (c.in-Ok.ensures.taken c.if-not-whole.false) names known in
     let at = (c.loop-turn.invariant.finds names known).1 in
     compares_here (left_in c.args.text.now all) rest behind (drop_cr line) c.args.now c.args.begin c.loop-turn.place at (line_first rest line behind taken.parts taken.one)
-    (c.in-Here.ensures.compared at.last (drop_cr line) (whole_lines behind) (subst (λ (l : List ℕ). IsSaid l c.in-Ok-said_by.said) (c.without_cr.ensures ∙ ap drop_cr c.deref.ensures.value) c.in-Ok-said_by.ensures) at.is)
+    (c.in-Here.ensures.compared (drop_cr line) (whole_lines behind) (subst (λ (l : List ℕ). IsSaid l c.in-Ok-said_by.said) (c.without_cr.ensures ∙ ap drop_cr c.deref.ensures.value) c.in-Ok-said_by.ensures) at.is)
 
 -- at a line that does not lead on
 pub returns-in-Nowhere-clause-found : goal.returns-in-Nowhere-clause-found
@@ -104,4 +104,4 @@ returns-in-Nowhere-clause-compared g c names known =
     let taken = text_then g.F.JournalFolder c.args.folder.now c.loop-turn.folder c.args.text.now c.loop-turn.text (λ x. IsLine (left_in c.loop-turn.text x) line (left_in c.take_line.new.self x)) c.loop-turn.invariant.reads (c.in-Ok.ensures.taken c.if-not-whole.false) names known in
     let at = (c.loop-turn.invariant.finds names known).1 in
     compares_nowhere (left_in c.args.text.now all) rest behind (drop_cr line) c.args.now c.args.begin c.loop-turn.place at (line_first rest line behind taken.parts taken.one)
-    (c.in-Nowhere.ensures.compared at.last (drop_cr line) (whole_lines behind) (subst (λ (l : List ℕ). IsSaid l c.in-Ok-said_by.said) (c.without_cr.ensures ∙ ap drop_cr c.deref.ensures.value) c.in-Ok-said_by.ensures) at.is)
+    (c.in-Nowhere.ensures.compared (drop_cr line) (whole_lines behind) (subst (λ (l : List ℕ). IsSaid l c.in-Ok-said_by.said) (c.without_cr.ensures ∙ ap drop_cr c.deref.ensures.value) c.in-Ok-said_by.ensures) at.is)

@@ -1,11 +1,11 @@
-use Rattle.std.proofs.Common.{◌≡◌, ℕ, Some, None, refl, false, true, ap, sym, subst, arith, rules, ◌∙◌}
+use Rattle.std.proofs.Common.{◌≡◌, ℕ, Some, false, true, ap, sym, subst, arith, rules, ◌∙◌}
 use Rattle.std.proofs.lemmas.Bool.Decides.{nat_tests}
 use Rattle.std.specs.Prelude.{◌==◌, ◌&&◌}
 use mathlib.Core.Bool.{false≢true}
 use Rattle.pid_journal.specs.declared.counts.Counts.{Counts}
 use Rattle.pid_journal.specs.declared.placing.LineCounts.{LineCounts}
 use Rattle.pid_journal.specs.Steps.Places.{IsSaid}
-use Rattle.pid_journal.proofs.Comparing.{after_more, after_said, after_still, noted_off, noted_older, noted_said, noted_still, compared_here, compared_no_more, compared_older, compared_still, unnoted_line}
+use Rattle.pid_journal.proofs.Comparing.{after_more, after_said, after_still, noted_off, noted_older, noted_said, noted_still, since_here, since_off, since_older, since_still, unnoted_line}
 use Rattle.pid_journal.proofs.Places.{command_passed, holds_here, holds_older, holds_other, not_older, nothing_said}
 use Rattle.pid_journal.proofs.placing.judge_line.Goals as goal
 
@@ -47,42 +47,40 @@ returns-else-now-place-clause-next c shown h line lines is said placed =
 -- WHAT IS COMPARED
 
 pub returns-then-counts-now-clause-compared : goal.returns-then-counts-now-clause-compared
-returns-then-counts-now-clause-compared c last line lines is older =
+returns-then-counts-now-clause-compared c line lines is older =
     let says = subst (λ (s : LineCounts). IsSaid line s) c.in-Holds.is is in (
-      Some c.in-Holds.counts,
-      ((refl, c.if-counts-now.true), λ on. c.if-counts-now.true),
-      compared_older c.args.now c.in-Holds.counts last c.args.place line lines older says,
+      λ on. c.if-counts-now.true,
+      since_older c.args.now c.in-Holds.counts line lines says c.if-counts-now.true,
       after_said c.args.place.most c.in-Holds.counts line lines says,
       noted_said c.args.place.noted c.in-Holds.counts line lines says,
     )
 
 pub returns-then-eq-clause-compared : goal.returns-then-eq-clause-compared
-returns-then-eq-clause-compared c last line lines is older =
+returns-then-eq-clause-compared c line lines is older =
     let same : c.in-Holds.counts ≡ c.args.now = search rules in
-    compared_here c.args.now c.in-Holds.counts last c.args.place line lines older (subst (λ (s : LineCounts). IsSaid line s) c.in-Holds.is is) c.if-counts-now.false ∙ ap (λ (k : Counts). Some k) same
+    since_here c.args.now c.in-Holds.counts line lines (subst (λ (s : LineCounts). IsSaid line s) c.in-Holds.is is) c.if-counts-now.false ∙ ap (λ (k : Counts). Some k) same
 
 pub returns-else-eq-clause-compared : goal.returns-else-eq-clause-compared
-returns-else-eq-clause-compared c last line lines is older noted = (
+returns-else-eq-clause-compared c line lines is older noted = (
   c.in-Holds.counts,
-  compared_here c.args.now c.in-Holds.counts last c.args.place line lines older (subst (λ (s : LineCounts). IsSaid line s) c.in-Holds.is is) c.if-counts-now.false,
-  c.if-counts-now.false,
+  since_here c.args.now c.in-Holds.counts line lines (subst (λ (s : LineCounts). IsSaid line s) c.in-Holds.is is) c.if-counts-now.false,
   λ same. never_false c.in-Holds.counts c.args.now same c.if-eq.ensures,
 )
 
 pub returns-in-Nothing-clause-compared : goal.returns-in-Nothing-clause-compared
-returns-in-Nothing-clause-compared c last line lines is older =
+returns-in-Nothing-clause-compared c line lines is older =
     let none = subst (λ (s : LineCounts). IsSaid line s) c.in-Nothing.is is in
-    (last, older, compared_still c.args.now last c.args.place line lines older none.0 none.1, after_still c.args.place.most line lines none.0 none.1, noted_still c.args.place.noted line lines none.0 none.1)
+    (older, since_still c.args.now line lines none.0, after_still c.args.place.most line lines none.0 none.1, noted_still c.args.place.noted line lines none.0 none.1)
 
 pub returns-then-not-place-clause-compared : goal.returns-then-not-place-clause-compared
-returns-then-not-place-clause-compared c last line lines is older =
+returns-then-not-place-clause-compared c line lines is older =
     unnoted_line c.args.place.noted line lines (subst (λ (s : LineCounts). IsSaid line s) c.in-Other.is is) c.if-not-place.true
 
 pub returns-then-now-place-clause-compared : goal.returns-then-now-place-clause-compared
-returns-then-now-place-clause-compared c last line lines is older =
-    noted_older last c.args.now c.args.place line lines (subst (λ (s : LineCounts). IsSaid line s) c.in-Other.is is) older c.if-now-place.true
+returns-then-now-place-clause-compared c line lines is older =
+    noted_older c.args.now c.args.place line lines (subst (λ (s : LineCounts). IsSaid line s) c.in-Other.is is) older c.if-now-place.true
 
 pub returns-else-now-place-clause-compared : goal.returns-else-now-place-clause-compared
-returns-else-now-place-clause-compared c last line lines is older =
+returns-else-now-place-clause-compared c line lines is older =
     let off = subst (λ (s : LineCounts). IsSaid line s) c.in-Other.is is in
-    (None, (tt, λ on. absurd (let no : ⊥ = cc in no)), compared_no_more c.args.now last c.args.place line lines older off, after_more c.args.place.most line lines off, noted_off c.args.place.noted line lines off)
+    ((λ on. absurd (let no : ⊥ = cc in no)), since_off c.args.now line lines off, after_more c.args.place.most line lines off, noted_off c.args.place.noted line lines off)

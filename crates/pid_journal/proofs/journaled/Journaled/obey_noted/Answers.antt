@@ -1,4 +1,4 @@
-use Rattle.std.proofs.Common.{inl, inr, [], Err, refl, sym, subst, append-nil}
+use Rattle.std.proofs.Common.{inl, inr, [], Err, take, drop, take-append-drop, refl, sym, subst, append-nil}
 use Rattle.pid_moderation.specs.declared.refusal.Refusal.TheVariants.{Store}
 use Rattle.pid_moderation.specs.Files.{asks}
 use Rattle.pid_moderation.specs.Judgement.{after}
@@ -20,8 +20,8 @@ returns-in-Err-clause-obeyed g c clean start h shows is =
     let count = counted (g.J.JournalFile.safe c.args.self.now.journal) shows.text c.count-count.result shows.safe c.count-count.ensures in
     inr (
       inr refl,
-      taken_back g.R.RegistryCalls g.J.JournalFile start h mid c.take_back-in-Err.new.self shows.text c.args.entry.now part.part part.gone (asks c.args.command) shows.leads is part.parts
-          (shows_same g.R.RegistryCalls g.J.JournalFile _ _ h c.take_back-in-Err.ensures.same shows.shown) part.left shows.settled
+      taken_back g.R.RegistryCalls g.J.JournalFile start h mid c.take_back-in-Err.new.self shows.text c.args.entry.now (take part.0 c.args.entry.now) (drop part.0 c.args.entry.now) (asks c.args.command) shows.leads is (sym (take-append-drop part.0 c.args.entry.now))
+          (shows_same g.R.RegistryCalls g.J.JournalFile _ _ h c.take_back-in-Err.ensures.same shows.shown) part.1 shows.settled
           (subst (IsCutBack g.J.JournalFile mid c.take_back-in-Err.new.self) (sym count) c.take_back-in-Err.ensures.taken),
     )
 
