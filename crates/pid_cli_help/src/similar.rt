@@ -10,9 +10,7 @@ const ALIKE: f64 = 0.7;
 pub fn similar_commands(alloc: Global, word: &str) -> Result<Vec<(f64, &'static str)>, AllocError> {
     let mut similar = Vec::new(alloc);
     for command in &COMMANDS {
-        if add_if_like(alloc, &mut similar, word, command).is_err() {
-            return Err(AllocError);
-        }
+        add_if_like(alloc, &mut similar, word, command)?;
     }
     Ok(similar)
 }
@@ -23,14 +21,10 @@ fn add_if_like(
     word: &str,
     command: &'static str,
 ) -> Result<(), AllocError> {
-    let Ok(likeness) = jaro(alloc, word, command) else {
-        return Err(AllocError);
-    };
+    let likeness = jaro(alloc, word, command)?;
     if likeness > ALIKE {
         let place = place_of(similar.as_slice(), likeness).min(similar.len());
-        if similar.insert(place, (likeness, command)).is_err() {
-            return Err(AllocError);
-        }
+        similar.insert(place, (likeness, command))?;
     }
     Ok(())
 }
