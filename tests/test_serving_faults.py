@@ -3,6 +3,7 @@ turn: a client that does what docs/HTTP.md says of such replies gets every answe
 nothing that was acknowledged is lost."""
 import bisect
 import contextlib
+import errno
 import os
 import resource
 import socket
@@ -390,3 +391,17 @@ def test_no_file_more(cases, folder):
         told, faults, status = server.ended()
         cases.equal("serve: no file more", (faults, status), (b"socket: failed\n", 3))
         cases.equal("serve: no file more: the end", told in (b"served 1\n", b"served 2\n"), True)
+
+
+@pytest.mark.needs("gcc", "libc6-dev")
+@pytest.mark.parametrize("error", [errno.EINTR, errno.ECONNABORTED], ids=errno.errorcode.get)
+def test_accepted_later(cases, folder, shims, error):
+    """A wait that a signal interrupts, and a client that closed before it was accepted, are no
+    connection: the server waits for the next one."""
+    environment = dict(
+        os.environ, LD_PRELOAD=shims["refuse_accept"], ACCEPT_FAILS="3", ACCEPT_ERROR=str(error)
+    )
+    with Server(os.path.join(folder, "r.db"), 1, program=WHOLE, env=environment) as server:
+        told = server.raw(b"GET /pending HTTP/1.1\r\n\r\n")
+        cases.equal("serve: accepted later", told, reply("200 OK", JSON, b"[]"))
+        cases.equal("serve: accepted later: the end", server.ended(), DONE_ONCE)

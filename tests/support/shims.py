@@ -1,5 +1,5 @@
-"""Libraries that refuse the program under test a request for memory, or a call of its disk, or note
-its calls."""
+"""Libraries that refuse the program under test a request for memory, a call of its disk, or a
+connection, or note its calls."""
 import os
 import subprocess
 import time
@@ -10,7 +10,7 @@ from program import SUPPORT, WHOLE, Skip
 ROOM = "/dev/shm" if os.access("/dev/shm", os.W_OK) else None
 
 # The libraries, each from its source in C.
-NAMES = ("refuse_disk", "refuse_malloc", "note_calls")
+NAMES = ("refuse_disk", "refuse_malloc", "refuse_accept", "note_calls")
 
 # Where a sample begins: at another call in each run, so that runs in turn try all of them. A test
 # prints it, and PCIIDS_SAMPLE repeats it.
