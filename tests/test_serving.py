@@ -1,5 +1,6 @@
 """The registry over HTTP on this machine: curl, raw sockets, clients that are slow or go away, and
 a server that is killed."""
+import contextlib
 import json
 import os
 import resource
@@ -512,6 +513,37 @@ def test_pauses(cases, folder):
             client.recv(65536),
             reply("200 OK", TEXT, b"ok 1\n"),
         )
+
+
+def replies_until_end(client, request):
+    """What comes back while a request is sent again and again, until the server ends the
+    connection."""
+    taken = []
+
+    def send():
+        with contextlib.suppress(OSError):
+            while True:
+                client.sendall(request)
+
+    sender = threading.Thread(target=send)
+    sender.start()
+    with contextlib.suppress(ConnectionResetError):
+        while piece := client.recv(65536):
+            taken.append(piece)
+    sender.join()
+    return b"".join(taken)
+
+
+def test_most_reads(cases, folder):
+    """A connection ends after 1,000,000 reads, each of 4,096 bytes at most, and the next one is
+    served: of bodies of 1,024 reads or some more each, 976 come whole at most."""
+    request = b"POST /nothing HTTP/1.1\r\nContent-Length: 4194304\r\n\r\n" + bytes(4_194_304)
+    with Server(os.path.join(folder, "reads"), 2) as server:
+        with server.connect() as client:
+            came = replies_until_end(client, request).count(b"HTTP/1.1 404 Not Found\r\n")
+        cases.equal(f"http: the most reads: {came} requests", 600 < came <= 976, True)
+        told = server.raw(b"GET /pending HTTP/1.1\r\n\r\n")
+        cases.equal("http: behind the most reads", told, reply("200 OK", JSON, b"[]"))
 
 
 def test_many_connections(cases, folder):
