@@ -517,7 +517,7 @@ def test_pauses(cases, folder):
 
 def replies_until_end(client, request):
     """What comes back while a request is sent again and again, until the server ends the
-    connection."""
+    connection, and whether it then closes it."""
     taken = []
 
     def send():
@@ -530,20 +530,36 @@ def replies_until_end(client, request):
     with contextlib.suppress(ConnectionResetError):
         while piece := client.recv(65536):
             taken.append(piece)
-    sender.join()
-    return b"".join(taken)
+    sender.join(timeout=20)
+    return b"".join(taken), not sender.is_alive()
 
 
 def test_most_reads(cases, folder):
-    """A connection ends after 1,000,000 reads, each of 4,096 bytes at most, and the next one is
-    served: of bodies of 1,024 reads or some more each, 976 come whole at most."""
+    """A connection ends after 1,000,000 reads, each of 4,096 bytes at most, also that of a client
+    that sends on; and the next one is served. Of bodies of 1,024 reads each 976 come whole."""
     request = b"POST /nothing HTTP/1.1\r\nContent-Length: 4194304\r\n\r\n" + bytes(4_194_304)
     with Server(os.path.join(folder, "reads"), 2) as server:
         with server.connect() as client:
-            came = replies_until_end(client, request).count(b"HTTP/1.1 404 Not Found\r\n")
+            replies, is_closed = replies_until_end(client, request)
+        came = replies.count(b"HTTP/1.1 404 Not Found\r\n")
         cases.equal(f"http: the most reads: {came} requests", 600 < came <= 976, True)
+        cases.equal("http: a client that sends on", is_closed, True)
         told = server.raw(b"GET /pending HTTP/1.1\r\n\r\n")
         cases.equal("http: behind the most reads", told, reply("200 OK", JSON, b"[]"))
+
+
+def test_client_that_stays(cases, folder):
+    """A client that leaves its connection open after the last reply is waited for a second."""
+    question = b"GET /pending HTTP/1.1\r\n"
+    with Server(os.path.join(folder, "stays"), 2) as server, server.connect() as client:
+        client.sendall(question + b"Connection: close\r\n\r\n")
+        last = reply("200 OK", JSON, b"[]", close=True)
+        cases.equal("http: the last reply to a client that stays", to_end(client), last)
+        start = time.monotonic()
+        told = server.raw(question + b"\r\n")
+        waited = time.monotonic() - start
+        cases.equal("http: behind a client that stays", told, reply("200 OK", JSON, b"[]"))
+        cases.equal(f"http: it waited {waited:.1f} s", waited < 10, True)
 
 
 def test_many_connections(cases, folder):
