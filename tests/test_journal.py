@@ -9,7 +9,7 @@ import urllib.parse
 import pytest
 
 from disks import small_disk
-from http_server import Server
+from http_server import Server, free_port
 from journal_room import lose, names_in, text_of
 from program import HEADER, WHOLE
 from registry import asked, script, work
@@ -348,7 +348,8 @@ def test_gap_of_one(cases, folder):
 
 
 def test_folders(cases, folder):
-    """A folder that another program has, or that cannot be had, is reported."""
+    """A folder that another program has, or that cannot be had, is reported by each job, before a
+    fault of its other arguments; nothing is made then."""
     db, journal, other = (os.path.join(folder, it) for it in ("r.db", "journal", "other.db"))
     with Server(db, program=WHOLE, journal=journal):
         told = journaled(b"export\n", other, journal)
@@ -357,9 +358,16 @@ def test_folders(cases, folder):
     file = os.path.join(folder, "file")
     with open(file, "wb"):
         pass
-    for name, place in (("a file", file), ("no folder above", os.path.join(folder, "no", "j"))):
-        told = journaled(b"export\n", db, place)
-        cases.equal(name, told, (b"", b"journal: failed\n", 3))
+    above = os.path.join(folder, "no", "j")
+    for name, place in (("a file", file), ("no folder above", above), ("no name", "")):
+        for job in (
+            ("script",),
+            ("import", "--account", "No Account", file),
+            ("serve", "--port", str(free_port()), "--connections", "1"),
+        ):
+            told = work(b"export\n", *job, "--db", other, "--journal", place)
+            cases.equal(f"{job[0]}: {name}", told, (b"", b"journal: failed\n", 3))
+    cases.equal("no registry was made", os.path.exists(other), False)
 
 
 def test_full(cases, folder):
