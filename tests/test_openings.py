@@ -1,7 +1,10 @@
 """Files of both schemas that the real sqlite3 damaged and mended, and others' tables beside a
 registry's: what the program's openings and migrations say, and how it goes on."""
+import contextlib
 import gzip
 import os
+import shutil
+import sqlite3
 
 import pytest
 
@@ -318,6 +321,26 @@ def test_refused(cases, folder):
         cases.equal(f"refused: another name of {suffix}", script(path), STORE)
         os.remove(path + ".other")
         obeys(cases, f"refused: {suffix} without it", path, AGAIN)
+
+
+def test_refused_log(cases, folder):
+    """What sqlite3 left in the log of a file that is refused is not copied into the file."""
+    made, path = (os.path.join(folder, name) for name in ("made.db", "r.db"))
+    script(made, *(line for line, _ in RUN))
+    with contextlib.closing(sqlite3.connect(made)) as kept_open:
+        kept_open.execute("PRAGMA journal_mode = WAL")
+        kept_open.execute("UPDATE meta SET value = 3 WHERE label = 'schema'")
+        kept_open.commit()
+        for suffix in ("", "-wal"):
+            shutil.copy(made + suffix, path + suffix)
+    with open(path, "rb") as file:
+        before = file.read()
+    for job in ("script", "migrate", "export"):
+        cases.equal(f"a log: {job}", work(b"", job, "--db", path), NEWER)
+        with open(path, "rb") as file:
+            cases.equal(f"a log: the file after {job}", file.read() == before, True)
+    label = asked(path, "SELECT value FROM meta WHERE label = 'schema'")
+    cases.equal("a log: what it holds", label, "3\n")
 
 
 def test_unruly(cases, folder):
