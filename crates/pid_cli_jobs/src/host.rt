@@ -1,18 +1,15 @@
 //! The machine of the process.
 ghost use Rattle.std.specs.Prelude.{◌≡◌, IfOk};
 ghost use Rattle.pid_cli_jobs.specs.Files.{ClosesFiles};
-ghost use Rattle.pid_cli_jobs.specs.Sessions.{IsOfDatabase};
 ghost use Rattle.pid_cli_jobs.specs.Steps.Addresses.{IsLoopback};
 
-use crate::host_names::{HostNames, open_named};
+use crate::host_names::{HostFile, open_named};
 use crate::machine::{Databases, Machine};
-use crate::named_file::NamedFile;
 use crate::unopened::Unopened;
 use pid_http_stream::listener::{Serving, StreamServer, serve_on};
 use pid_ident::Output;
-use sqlite::{Connection, Error as SqlError, ErrorCode, FileStore, Leftover};
+use sqlite::{Connection, FileStore};
 use sqlite_disk::{Disk, Start};
-use sqlite_std_file::FileFrom;
 use std::alloc::Global;
 use std::fs::File;
 use std::net::{IpAddr, Ipv4Addr, SocketAddr, TcpListener};
@@ -41,7 +38,7 @@ impl<'r, S: Start> Databases for Host<'r, S> {
     ghost use Rattle.sqlite_wal.specs.Files.{image_at};
     ghost use Rattle.pid_cli_jobs.specs.Files.{ClosesFiles, OpensFiles};
 
-    type Kept = FileStore<NamedFile<FileFrom<S>, HostNames<'r>>>;
+    type Kept = FileStore<HostFile<'r, S>>;
 
     ghost is_at = { λ _ conn. OpensFiles (image_at S.Start) conn };
 
@@ -51,23 +48,14 @@ impl<'r, S: Start> Databases for Host<'r, S> {
         self.rt.alloc()
     }
 
-    fn open(
-        &mut self,
-        path: &str,
-    ) -> Result<Connection<FileStore<NamedFile<FileFrom<S>, HostNames<'r>>>>, Unopened> {
-        let Some(start) = self.start.take() else {
-            return Err(Unopened::Store);
-        };
-        match open_named(self.rt, path, start) {
-            Ok(conn) => Ok(conn),
-            Err((error, left)) => Err(opening_fault(error, left)),
+    fn open(&mut self, path: &str) -> Result<Connection<FileStore<HostFile<'r, S>>>, Unopened> {
+        match self.start.take() {
+            Some(start) => open_named(self.rt, path, start),
+            None => Err(Unopened::Store),
         }
     }
 
-    fn close(
-        &mut self,
-        conn: &mut Option<Connection<FileStore<NamedFile<FileFrom<S>, HostNames<'r>>>>>,
-    ) {
+    fn close(&mut self, conn: &mut Option<Connection<FileStore<HostFile<'r, S>>>>) {
         if let Some(conn) = conn.take() {
             close_files(conn);
         }
@@ -111,31 +99,6 @@ fn close_files<D: Disk + Drop>(conn: Connection<FileStore<D>>)
         Ok(_files) => {}
         Err((_, store)) => drop(store.close()),
     }
-}
-
-// Why a database was not opened, by the error and what is left of its files. `sqlite` answers
-// NotADatabase for a database whose rows or schema it refuses, and for what is none.
-fn opening_fault<D: Disk + Drop>(error: SqlError, left: Option<Leftover<D>>) -> Unopened
-    ensures { IsOfDatabase result }
-{
-    match (error, left) {
-        (SqlError::SqliteFailure(ErrorCode::OutOfMemory), _) => Unopened::Memory,
-        (SqlError::SqliteFailure(ErrorCode::NotADatabase), Some(left)) => {
-            let mut files = left.into_files();
-            if begins_as_database(&mut files.db) {
-                Unopened::Damaged
-            } else {
-                Unopened::Store
-            }
-        }
-        _ => Unopened::Store,
-    }
-}
-
-// Whether the header of an SQLite database is at the beginning of a file.
-fn begins_as_database<D: Disk>(file: &mut D) -> bool {
-    let mut header = [0; 16];
-    file.may_be_used() && file.read_at(0, &mut header).is_ok() && header == *b"SQLite format 3\0"
 }
 
 /// A port of this machine that is listened on.

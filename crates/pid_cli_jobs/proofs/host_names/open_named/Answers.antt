@@ -13,19 +13,14 @@ seen log db is_log history = (replay (cond is_log log db) history).seen
 
 pub returns-in-Ok-open_files_with-clause-opened : goal.returns-in-Ok-open_files_with-clause-opened
 returns-in-Ok-open_files_with-clause-opened g c =
-    rw c.set_clock.ensures c.in-Ok-open_files_with.ensures.opened
-
-pub returns-in-Ok-open_files_with-clause-found : goal.returns-in-Ok-open_files_with-clause-found
-returns-in-Ok-open_files_with-clause-found g c = rw c.set_clock.ensures λ clean.
-    let log = c.in-Ok-open_pair.ensures.log.1 in
-    let db = c.in-Ok-open_pair.ensures.db.1 in
-    let found = c.in-Ok-open_files_with.ensures.found clean in
-    let same = ap₂ image (ap₂ (seen g.S.Start.log g.S.Start.db) log.0 log.1) (ap₂ (seen g.S.Start.log g.S.Start.db) db.0 db.1) in
-    subst (λ i. FindsIn i (file_state c.in-Ok-open_files_with.conn)) same (record { holds = found.holds; reads = found.reads })
-
-pub returns-in-Ok-open_files_with-clause-plain : goal.returns-in-Ok-open_files_with-clause-plain
-returns-in-Ok-open_files_with-clause-plain g c = rw c.set_clock.ensures λ clean blank.
     let log = c.in-Ok-open_pair.ensures.log.1 in
     let db = c.in-Ok-open_pair.ensures.db.1 in
     let same = ap₂ image (ap₂ (seen g.S.Start.log g.S.Start.db) log.0 log.1) (ap₂ (seen g.S.Start.log g.S.Start.db) db.0 db.1) in
-    c.in-Ok-open_files_with.ensures.sums clean (subst (IsBlankAs false) (sym same) blank)
+    record {
+      opened = rw c.set_clock.ensures c.in-Ok-open_files_with.ensures.opened;
+      found = rw c.set_clock.ensures λ clean.
+          let found = c.in-Ok-open_files_with.ensures.found clean in
+          subst (λ i. FindsIn i (file_state c.in-Ok-open_files_with.conn)) same (record { holds = found.holds; reads = found.reads });
+      plain = rw c.set_clock.ensures λ clean blank.
+          c.in-Ok-open_files_with.ensures.sums clean (subst (IsBlankAs false) (sym same) blank);
+    }
