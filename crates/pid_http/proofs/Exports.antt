@@ -22,7 +22,7 @@ use Rattle.pid_http_stream.specs.Leading.{Leads}
 use Rattle.pid_http.specs.Answering.{Asks}
 use Rattle.pid_http.specs.declared.api.format.Format.{Format}
 use Rattle.pid_http.specs.declared.api.question.Question.TheVariants.{Whole}
-use Rattle.pid_http.specs.declared.api.route.Whole.TheVariants.{Export}
+use Rattle.pid_http.specs.declared.api.route_table.Whole.TheVariants.{Export}
 use Rattle.pid_http.specs.Steps.Handling.{WritesText, WritesOver}
 use Rattle.pid_http.specs.Known.{Known, Live, Between, Down, IsKnownOf, LivesOn, SessionState, IsSessionState}
 use Rattle.pid_http.specs.Steps.Going.{Goes, calls_join}

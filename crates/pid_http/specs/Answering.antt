@@ -49,8 +49,8 @@ use Rattle.pid_http.specs.Api.Replying.{list_answer, shown_answer}
 use Rattle.pid_http.specs.Api.RankAnswers.{rank_answer}
 use Rattle.pid_http.specs.Api.StatusAnswers.{status_data, status_text}
 use Rattle.pid_http.specs.declared.api.question.Question.TheVariants as questions
-use Rattle.pid_http.specs.declared.api.route.Pages.TheVariants as pages
-use Rattle.pid_http.specs.declared.api.route.Whole.TheVariants as wholes
+use Rattle.pid_http.specs.declared.api.route_table.Pages.TheVariants as pages
+use Rattle.pid_http.specs.declared.api.route_table.Whole.TheVariants as wholes
 use Rattle.pid_http.specs.declared.api.request.Request.TheVariants as wants
 use Rattle.pid_lookup.specs.declared.answering.LookupRefusal.TheVariants as lookups
 

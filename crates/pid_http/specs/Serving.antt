@@ -27,7 +27,7 @@ use Rattle.pid_http.specs.Answering.{Denied, Asks, command_sent, meaning_of, kno
 use Rattle.pid_http.specs.declared.api.format.Format.{Format}
 use Rattle.pid_http.specs.declared.api.question.Question.{Question}
 use Rattle.pid_http.specs.declared.api.question.Question.TheVariants.{Whole, Children}
-use Rattle.pid_http.specs.declared.api.route.Whole.TheVariants.{Export}
+use Rattle.pid_http.specs.declared.api.route_table.Whole.TheVariants.{Export}
 use Rattle.pid_http.specs.Known.{Known, Live, Between, SessionState, ByCalls}
 
 -- the calls send nothing, and are at most so many

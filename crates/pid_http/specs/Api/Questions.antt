@@ -25,16 +25,16 @@ use Rattle.pid_http.specs.declared.api.format.Format.TheVariants.{Json, Text}
 use Rattle.form_urlencoded.specs.Form.{split_once}
 use Rattle.pid_form.specs.FormFields.{fields_in}
 use Rattle.pid_http.specs.Api.Routes.{Route, route_at}
-use Rattle.pid_http.specs.declared.api.route.Payload.{Payload}
-use Rattle.pid_http.specs.declared.api.route.Topic.{Topic}
+use Rattle.pid_http.specs.declared.api.route_table.Payload.{Payload}
+use Rattle.pid_http.specs.declared.api.route_table.Topic.{Topic}
 use Rattle.pid_http.specs.declared.api.question.Question.{Question}
 use Rattle.pid_http.specs.declared.api.request.Request.{Request}
 use Rattle.pid_http.specs.declared.api.request.Request.TheVariants.{Refused, Asks, Obeys}
 use Rattle.pid_http_stream.specs.declared.handler.Wanted.{Wanted}
 use Rattle.pid_http_stream.specs.declared.handler.Wanted.TheVariants.{Buffered, Streamed}
 use Rattle.pid_form.specs.Numbers as numbers
-use Rattle.pid_http.specs.declared.api.route.Payload.TheVariants as payloads
-use Rattle.pid_http.specs.declared.api.route.Topic.TheVariants as topics
+use Rattle.pid_http.specs.declared.api.route_table.Payload.TheVariants as payloads
+use Rattle.pid_http.specs.declared.api.route_table.Topic.TheVariants as topics
 use Rattle.pid_http.specs.declared.api.question.Question.TheVariants as questions
 
 -- what is said, or how it is refused

@@ -7,9 +7,9 @@ use Rattle.matchit.specs.Router.{RouteOf, route_from}
 use Rattle.matchit.specs.Rows.{RowsOf}
 use Rattle.matchit.specs.Seek.{first}
 use Rattle.matchit.specs.declared.error.InsertError.{InsertError}
-use Rattle.pid_http.specs.declared.api.route.Payload.{Payload}
-use Rattle.pid_http.specs.declared.api.route.Topic.{Topic}
-use Rattle.pid_http.specs.declared.api.route.TheConstants.{ROUTES}
+use Rattle.pid_http.specs.declared.api.route_table.Payload.{Payload}
+use Rattle.pid_http.specs.declared.api.route_table.Topic.{Topic}
+use Rattle.pid_http.specs.declared.api.route_table.TheConstants.{ROUTES}
 
 -- the path of a route; the names of the fields that the query of a GET may have there, and what it
 -- asks about; and what a POST sends

@@ -16,7 +16,7 @@ use crate::api::field_values::{
     account_named, author_named, number_named, path_named, revision_named, submission_named,
 };
 use crate::api::format::Format;
-use crate::api::route::{Pages, Topic, Whole};
+use crate::api::route_table::{Pages, Topic, Whole};
 use pid_form::{text_at, value};
 use pid_ident::{Account, Path, PathText};
 use pid_lookup::{Args, args_of};

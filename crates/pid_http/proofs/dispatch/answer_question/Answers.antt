@@ -19,8 +19,8 @@ use Rattle.pid_http.specs.Api.Replying.{list_answer, shown_answer}
 use Rattle.pid_http.specs.Api.SubmissionAnswers.{pending_data, pending_line, queued_data, queued_line, remarks_data, remarks_text, submissions_data, submissions_text}
 use Rattle.pid_http.specs.Api.StatusAnswers.{status_data, status_text}
 use Rattle.pid_http.specs.declared.api.question.Question.TheVariants as questions
-use Rattle.pid_http.specs.declared.api.route.Pages.TheVariants as pages
-use Rattle.pid_http.specs.declared.api.route.Whole.TheVariants as wholes
+use Rattle.pid_http.specs.declared.api.route_table.Pages.TheVariants as pages
+use Rattle.pid_http.specs.declared.api.route_table.Whole.TheVariants as wholes
 use Rattle.pid_http.proofs.Meeting.{if_there_met, question_met, replied, shows, shows_there}
 use Rattle.pid_http.proofs.dispatch.answer_question.Goals as goal
 

@@ -1,7 +1,7 @@
 use Rattle.std.proofs.Common.{refl}
 use Rattle.pid_http.specs.Answering.{Asks}
 use Rattle.pid_http.specs.declared.api.question.Question.TheVariants.{Whole}
-use Rattle.pid_http.specs.declared.api.route.Whole.TheVariants.{Export}
+use Rattle.pid_http.specs.declared.api.route_table.Whole.TheVariants.{Export}
 use Rattle.pid_http.proofs.Exports.{length_answered}
 use Rattle.pid_http.proofs.Meeting.{asked_on, one_question, refused_call, replied}
 use Rattle.pid_http.proofs.dispatch.export.Goals as goal

@@ -6,8 +6,8 @@ use Rattle.matchit.specs.Route.{Scan, parse_route}
 use Rattle.matchit.specs.Router.{RouteOf, nearest}
 use Rattle.matchit.specs.Rows.{RowsOf}
 use Rattle.matchit.specs.declared.error.InsertError.{InsertError}
-use Rattle.pid_http.specs.declared.api.route.Payload.{Payload}
-use Rattle.pid_http.specs.declared.api.route.Topic.{Topic}
+use Rattle.pid_http.specs.declared.api.route_table.Payload.{Payload}
+use Rattle.pid_http.specs.declared.api.route_table.Topic.{Topic}
 use Rattle.pid_http.specs.Api.Routes.{Route, paths, with_read}
 
 -- a row as the table has it, and by the bytes of its texts

@@ -1,7 +1,7 @@
 use Rattle.std.proofs.Common.{rules, refl, sym, ◌∙◌}
 use Rattle.std.proofs.lemmas.List.{drop_all}
 use Rattle.pid_http.proofs.OfApi.RouteRows.{finish, first_new, inserted, lacks_memory, more_new, next}
-use Rattle.pid_http.proofs.api.routes.insert_all.Goals as goal
+use Rattle.pid_http.proofs.api.router.insert_all.Goals as goal
 
 pub loop-place-init : goal.loop-place-init
 loop-place-init c = (refl, λ new. new)

@@ -3,7 +3,7 @@ ghost use Rattle.std.specs.Prelude.{◌≡◌, [], map, option_map, true, IfErr,
 ghost use Rattle.pid_http.specs.Api.Routes.{all_routes, paths, route_at, with_all};
 ghost use Rattle.pid_http.specs.Api.Steps.Inserting.{all_new, paths_of, row_of};
 
-use crate::api::route::{ROUTES, Route};
+use crate::api::route_table::{ROUTES, Route};
 use matchit::{InsertError, Router};
 use std::alloc::Global;
 

@@ -1,5 +1,5 @@
 use Rattle.std.proofs.Common.{refl}
-use Rattle.pid_http.proofs.api.routes.table.Goals as goal
+use Rattle.pid_http.proofs.api.router.table.Goals as goal
 
 pub returns : goal.returns
 returns c = refl
