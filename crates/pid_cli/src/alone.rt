@@ -1,7 +1,9 @@
 //! The registry at a path, with nothing in front of it.
-use crate::unopened::of_tables;
+ghost use Rattle.std.specs.Prelude.{◌≡◌};
+ghost use Rattle.pid_cli.specs.Openings.{reason_of_tables};
+
 use pid_cli_jobs::{Databases, Registries, Unopened};
-use pid_service::{Registry, open};
+use pid_service::{Registry, TableFault, open};
 
 /// Registries with nothing in front of them. A connection on which `open` finds none is dropped as
 /// it is: to close it would copy its log into a file that was refused.
@@ -44,5 +46,17 @@ impl<D: Databases> Registries<D> for Alone {
         if registry.is_live() {
             databases.close(&mut Some(registry.close()));
         }
+    }
+}
+
+/// Why none was opened: the tables were refused.
+pub fn of_tables(fault: TableFault) -> Unopened
+    ensures { result ≡ reason_of_tables fault }
+{
+    match fault {
+        TableFault::Memory => Unopened::Memory,
+        TableFault::Store => Unopened::Store,
+        TableFault::Damaged => Unopened::Damaged,
+        TableFault::NewerSchema(schema) => Unopened::NewerSchema(schema),
     }
 }

@@ -35,8 +35,7 @@ fn print_all<D: Databases, O: Output, F: Output>(
 {
     let mut registries = Alone;
     match registries.open(databases, path) {
-        Ok(registry) => {
-            let mut registry = registry;
+        Ok(mut registry) => {
             let printed = registry.export_rows(output);
             registries.close(databases, registry);
             end_of_export(printed)

@@ -6,7 +6,6 @@ mod exporting;
 pub mod laws;
 mod migrating;
 mod running;
-mod unopened;
 
 use crate::running::run_on_host;
 use pid_cli_args::terminal::Run;

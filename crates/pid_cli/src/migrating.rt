@@ -1,10 +1,10 @@
 //! The migration of the tables at a path.
 ghost use Rattle.std.specs.Prelude.{◌≡◌};
 ghost use Rattle.pid_file.specs.Writing.{use_of};
-ghost use Rattle.pid_cli_jobs.specs.Lines.{PrintsLine, streams};
+ghost use Rattle.pid_cli_jobs.specs.Lines.{streams};
 ghost use Rattle.pid_cli.specs.Migrations.{Migrates, step_line};
 
-use crate::unopened::of_tables;
+use crate::alone::of_tables;
 use pid_cli_jobs::{Databases, JobEnd, print_line, report_unopened};
 use pid_ident::Output;
 use pid_service::Step;
@@ -17,13 +17,6 @@ fn step_text(step: Step) -> &'static str
         Step::Moved => "moved to schema 2\n",
         Step::Already => "schema 2 already\n",
     }
-}
-
-// Prints what a migration did, with exit status 0.
-fn print_step<O: Output>(step: Step, output: &mut O) -> JobEnd
-    ensures { PrintsLine result (use_of O.Output output.old output.new) (step_line step) 0 }
-{
-    print_line(step_text(step).as_bytes(), 0, output)
 }
 
 /// Moves the tables at a path to the newest schema, or creates them; opens no registry. Prints what
@@ -44,7 +37,7 @@ pub fn migrate<D: Databases, O: Output, F: Output>(
     };
     match pid_service::migrate(databases.alloc(), conn) {
         Ok((conn, step)) => {
-            let end = print_step(step, output);
+            let end = print_line(step_text(step).as_bytes(), 0, output);
             databases.close(&mut Some(conn));
             end
         }

@@ -10,7 +10,6 @@ mod prefix;
 mod progress;
 mod reasons;
 mod run;
-mod say;
 mod seen;
 mod values;
 
@@ -18,3 +17,9 @@ pub use lines::ScriptInput;
 pub use progress::{Counted, Progress};
 pub use run::{Faults, Replies, Run};
 pub use seen::{Looks, Seen};
+use std::io::Write;
+
+// Says what a file is or does, or after a front such as `cannot open `, why not.
+fn say(rt: &HostRuntime, front: &str, path: &str, between: &str, what: &str) {
+    let _ = write!(rt.stderr(), "pciids: {front}{path}{between}{what}\n");
+}

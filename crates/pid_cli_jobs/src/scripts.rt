@@ -42,8 +42,7 @@ pub fn script<D: Databases, G: Registries<D>, I: Incoming<O>, O: Output, F: Outp
     ensures reads { I.goes input.old input.new }
 {
     match registries.open(databases, path) {
-        Ok(registry) => {
-            let mut registry = registry;
+        Ok(mut registry) => {
             let end = run_script(databases.alloc(), &mut registry, input, output, TURNS);
             registries.close(databases, registry);
             end_of(end)

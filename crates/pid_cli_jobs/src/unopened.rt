@@ -5,9 +5,9 @@ ghost use Rattle.pid_file.specs.Writing.{use_of};
 ghost use Rattle.pid_cli_jobs.specs.Lines.{Reports, unopened_line, unopened_word};
 
 use crate::job_end::JobEnd;
-use itoa::Buffer;
+use crate::lines::write_count;
 use pid_file::FAILED;
-use pid_ident::{Output, WriteFault, write_all, write_parts};
+use pid_ident::{Output, WriteFault, write_all};
 
 /// Why no registry was opened.
 #[derive(Clone, Copy)]
@@ -45,13 +45,11 @@ fn write_unopened<F: Output>(fault: Unopened, faults: &mut F) -> Result<(), Writ
     ensures sent { Sends result (F.taken faults.old) (F.taken faults.new) (unopened_line fault) }
     ensures fault { IfErr result (λ f. F.write_fault faults.new ≡ Some f) }
 {
-    let reason = unopened_reason(fault).as_bytes();
+    let reason = unopened_reason(fault);
     let Unopened::NewerSchema(schema) = fault else {
-        return write_all(faults, reason);
+        return write_all(faults, reason.as_bytes());
     };
-    let mut digits = Buffer::new();
-    let schema = digits.format(schema).as_bytes();
-    write_parts(faults, &[reason, schema, b"\n"])
+    write_count(reason, schema, faults)
 }
 
 /// Reports why a registry was not opened.

@@ -1,7 +1,7 @@
 //! Why a pci.ids file could not be read, or was refused.
 
 use crate::terminal::prefix::Prefix;
-use crate::terminal::say::say;
+use crate::terminal::say;
 use pid_cli_help::{looks_of, reason_of};
 use pid_file::LARGEST;
 use std::fs;

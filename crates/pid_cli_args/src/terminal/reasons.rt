@@ -2,7 +2,7 @@
 
 use crate::job::Job;
 use crate::terminal::files::prefix_of;
-use crate::terminal::say::say;
+use crate::terminal::say;
 use itoa::Buffer;
 use pid_cli_help::reason_of;
 use sqlite_disk::Unknown;

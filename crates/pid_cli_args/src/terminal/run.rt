@@ -5,7 +5,7 @@ use crate::terminal::files::{OPEN, explain_looks, explain_size, explain_unread};
 use crate::terminal::lines::{Lines, ScriptInput, script_input};
 use crate::terminal::prefix::Prefix;
 use crate::terminal::reasons::{explain_port, reason_of_folder, reason_of_store};
-use crate::terminal::say::say;
+use crate::terminal::say;
 use crate::terminal::seen::{Looks, Seen};
 use crate::terminal::values::{explain_lookup, explain_sender};
 use pid_cli_help::{Met, Noted, explain_streams, is_for_a_person, report_input};

@@ -1,4 +1,4 @@
-use Rattle.std.proofs.Common.{refl, subst, sym}
+use Rattle.std.proofs.Common.{refl, subst, sym, ◌∙◌}
 use Rattle.pid_cli.specs.Migrations.{IsMigration, Migrated, Unconnected, Unmoved}
 use Rattle.pid_cli.proofs.migrating.migrate.Goals as goal
 
@@ -11,7 +11,7 @@ returns-in-Ok-migrate g c = Migrated c.in-Ok.conn c.in-Ok-migrate.conn c.in-Ok-m
       shown = c.migrate.ensures.shown;
       judged = c.migrate.ensures.judged;
     }))
-    (c.print_step-end.ensures, refl) c.close.ensures
+    (rw (c.as_bytes.ensures.value ∙ c.step_text.ensures) at c.print_line-end.ensures, refl) c.close.ensures
 
 pub returns-in-Err : goal.returns-in-Err
 returns-in-Err g c =
