@@ -5,7 +5,7 @@ use crate::migrating::migrate;
 use pid_cli_args::Job;
 use pid_cli_args::terminal::{Counted, Progress, Seen};
 use pid_cli_jobs::{
-    Host, HostFolders, InMemory, Machine, Port, answer_lookup, report_end, run_import, run_script,
+    Host, HostFolders, InMemory, Machine, answer_lookup, report_end, run_import, run_script,
     run_serve,
 };
 use pid_file::{TextEnd, Watched, report_text_end, run_check, run_tidy};
@@ -65,19 +65,7 @@ fn run_job<M: Machine, I: Read, O: Write, F: Write>(
             let (to, errors) = (&mut to, &mut errors);
             run_import(machine, Alone, journals, progress, &words, to, errors)
         }
-        Job::Serve {
-            db,
-            journal,
-            port: number,
-            connections,
-        } => {
-            let port = Port {
-                number,
-                connections,
-            };
-            let (to, errors) = (&mut to, &mut errors);
-            run_serve(machine, Alone, journals, db, journal, port, to, errors)
-        }
+        Job::Serve(words) => run_serve(machine, Alone, journals, &words, &mut to, &mut errors),
         Job::Migrate { db } => migrate(machine, db, &mut to, &mut errors),
     };
     report_end(end, to.into_inner().is_unread(), &mut errors)

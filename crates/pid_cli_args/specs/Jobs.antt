@@ -14,6 +14,7 @@ use Rattle.pid_cli_args.specs.Commands.{Connections}
 use Rattle.pid_cli_args.specs.declared.job.Job.{Job}
 use Rattle.pid_cli_args.specs.declared.job.ImportArgs.{ImportArgs}
 use Rattle.pid_cli_args.specs.declared.job.LookupArgs.{LookupArgs}
+use Rattle.pid_cli_args.specs.declared.job.ServeArgs.{ServeArgs}
 use Rattle.pid_cli_args.specs.declared.job.Job.TheVariants as jobs
 
 -- the value of an argument
@@ -26,7 +27,7 @@ pub data Value : Type 0 where
 abbrev pub text_given : Option (Bor Text) → Option Text
 text_given = option_map (λ text. text.now)
 
--- the values of a lookup and of an import, in the order of their arguments
+-- the values of a lookup, of an import and of a server, in the order of their arguments
 abbrev pub lookup_values : LookupArgs → List Value
 lookup_values asked = OfText asked.ids.now ∷ OfText asked.flags.now
     ∷ map (λ spare. OfSpare (text_given spare)) (asked.size ∷ asked.vendor ∷ asked.device
@@ -35,6 +36,10 @@ lookup_values asked = OfText asked.ids.now ∷ OfText asked.flags.now
 abbrev pub import_values : ImportArgs → List Value
 import_values asked = OfText asked.db.now ∷ OfSpare (text_given asked.journal)
     ∷ OfText asked.account.now ∷ OfSpare (text_given asked.key) ∷ OfText asked.ids.now ∷ []
+
+abbrev pub serve_values : ServeArgs → List Value
+serve_values asked = OfText asked.db.now ∷ OfSpare (text_given asked.journal)
+    ∷ OfNumber asked.port ∷ OfNumber asked.connections ∷ []
 
 -- a job as the name of its subcommand with the values of its arguments, in their order
 abbrev pub task_of : Job → Text × List Value
@@ -45,11 +50,7 @@ task_of (jobs.Script db journal) =
     (codes "script", OfSpare (text_given db) ∷ OfSpare (text_given journal) ∷ [])
 task_of (jobs.Import asked) = (codes "import", import_values asked)
 task_of (jobs.Export db) = (codes "export", OfText db.now ∷ [])
-task_of (jobs.Serve db journal port connections) = (
-  codes "serve",
-  OfText db.now
-      ∷ OfSpare (text_given journal) ∷ OfNumber port ∷ OfNumber connections ∷ [],
-)
+task_of (jobs.Serve asked) = (codes "serve", serve_values asked)
 task_of (jobs.Migrate db) = (codes "migrate", OfText db.now ∷ [])
 
 -- the value of a required option

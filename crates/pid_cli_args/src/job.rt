@@ -15,13 +15,7 @@ pub enum Job<'a> {
     Export {
         db: &'a str,
     },
-    /// The port is 1 to 65,535; the number of connections is 1 to 1,000,000.
-    Serve {
-        db: &'a str,
-        journal: Option<&'a str>,
-        port: u16,
-        connections: u32,
-    },
+    Serve(ServeArgs<'a>),
     Migrate {
         db: &'a str,
     },
@@ -50,4 +44,14 @@ pub struct ImportArgs<'a> {
     pub account: &'a str,
     pub key: Option<&'a str>,
     pub ids: &'a str,
+}
+
+/// The registry that is served, the port that clients connect to, and the number of connections to
+/// serve, one after the other. The port is 1 to 65,535, the number 1 to 1,000,000.
+#[derive(Clone, Copy)]
+pub struct ServeArgs<'a> {
+    pub db: &'a str,
+    pub journal: Option<&'a str>,
+    pub port: u16,
+    pub connections: u32,
 }

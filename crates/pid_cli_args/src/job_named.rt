@@ -17,7 +17,7 @@ ghost use Rattle.pid_cli_args.specs.Jobs.{
 };
 
 use crate::commands::commands;
-use crate::job::{ImportArgs, Job, LookupArgs};
+use crate::job::{ImportArgs, Job, LookupArgs, ServeArgs};
 use clap::{ArgMatches, Error};
 use std::alloc::Global;
 
@@ -89,12 +89,12 @@ fn job_named<'a>(name: &str, given: &ArgMatches<'a>) -> Job<'a>
         "export" => Job::Export {
             db: needed_text(given, "db"),
         },
-        "serve" => Job::Serve {
+        "serve" => Job::Serve(ServeArgs {
             db: needed_text(given, "db"),
             journal: text(given, "journal"),
             port: port_given(given),
             connections: connections_given(given),
-        },
+        }),
         "migrate" => Job::Migrate {
             db: needed_text(given, "db"),
         },

@@ -8,6 +8,6 @@ mod no_job;
 mod subcommand;
 pub mod terminal;
 
-pub use job::{ImportArgs, Job, LookupArgs};
+pub use job::{ImportArgs, Job, LookupArgs, ServeArgs};
 pub use job_named::job_of;
 pub use no_job::report_no_job;

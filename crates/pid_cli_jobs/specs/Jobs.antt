@@ -48,13 +48,13 @@ use Rattle.pid_script.specs.declared.script_end.ScriptEnd.TheVariants as scripts
 use Rattle.pid_cli_args.specs.Jobs.{text_given}
 use Rattle.pid_cli_args.specs.declared.job.ImportArgs.{ImportArgs}
 use Rattle.pid_cli_args.specs.declared.job.LookupArgs.{LookupArgs}
+use Rattle.pid_cli_args.specs.declared.job.ServeArgs.{ServeArgs}
 use Rattle.pid_cli_jobs.specs.Lines.{FailsSilently, IsUnprinted, IsUnreported, PrintsAnswer}
 use Rattle.pid_cli_jobs.specs.Lines.{PrintsOnly, PrintsReply, ReportsMemory, ReportsOnly}
 use Rattle.pid_cli_jobs.specs.Lines.{ReportsUnopened, Streams, count_line}
-use Rattle.pid_cli_jobs.specs.Sessions.{IsSession}
+use Rattle.pid_cli_jobs.specs.Sessions.{IsPrepared, IsSession}
 use Rattle.pid_cli_jobs.specs.declared.job_end.JobEnd.{JobEnd}
 use Rattle.pid_cli_jobs.specs.declared.job_end.JobEnd.TheVariants.{Exited, FileFailed}
-use Rattle.pid_cli_jobs.specs.declared.serving.Port.{Port}
 use Rattle.pid_cli_jobs.specs.declared.unopened.Unopened.{Unopened as Reason}
 
 -- a job ends with a status, or by a fault of a file, which is still to be reported
@@ -230,34 +230,40 @@ pub record AnswersStream {R : Type 0} (registry : Ghosts R) (old new : R) (x : E
   })
 
 -- `port_of` is the port that a listener is for; IsServing says that streams came from it, once the
--- output had taken this
-module _ {L : Type 0} (port_of : L → ℕ) (IsServing : L → Option (List ℕ) → Serving → Type 0) where
+-- output had taken this; `is_live` is of what serves them
+module _ {L T : Type 0} (port_of : L → ℕ) (IsServing : L → Option (List ℕ) → Serving → Type 0)
+    (is_live : T → Bool) where
   -- Streams of at most so many connections to the port were served, after the line of where it
   -- listens, and it is reported how many. The server was live before them and is live after them,
   -- unless the serving ended because it is not.
-  pub record HasServed (port : Port) (live : Bool × Bool) (w : Streams) (end : JobEnd)
+  pub record HasServed (words : ServeArgs) (server : T × T) (w : Streams) (end : JobEnd)
       : Type 0 where
     pub listener : L
-    pub at_port : port_of listener ≡ port.number
+    pub at_port : port_of listener ≡ words.port
     -- what the output had taken before the first of them
     pub between : Option (List ℕ)
-    pub listens : Appends w.output.before between (listening_line port.number)
+    pub listens : Appends w.output.before between (listening_line words.port)
     pub serving : Serving
     pub serves : IsServing listener between serving
-    pub counted : CountsStreams serving.end port.connections serving.streams
-    pub lasts : IsLiveAt serving.end serving.streams live
+    pub counted : CountsStreams serving.end words.connections serving.streams
+    pub lasts : IsLiveAt serving.end serving.streams (is_live server.0, is_live server.1)
     pub reports : ReportsServing serving.end serving.streams
         (record w { output = record w.output { before = between } }) end
 
-  -- A server was given streams. Or none was: the port could not be had, memory for the table of
-  -- routes could not, or the line of where it listens did not go out whole.
-  pub data Offers (port : Port) (live : Bool × Bool) (w : Streams) (end : JobEnd) : Type 0 where
-    Unbound : ReportsOnly socket_line w end → Offers port live w end
-    Unrouted : ReportsMemory w end → Offers port live w end
-    Unheard : FailsWithin w.output (listening_line port.number) → IsUnreported w → end ≡ FileFailed
-        → Offers port live w end
-    Served : HasServed port live w end → Offers port live w end
+  -- A server was given streams. Or it was given none, and is as it was: the port could not be had,
+  -- memory for the table of routes could not, or the line of where it listens did not go out whole.
+  pub data Offers (words : ServeArgs) (server : T × T) (w : Streams) (end : JobEnd)
+      : Type 0 where
+    Unbound : server.1 ≡ server.0 → ReportsOnly socket_line w end → Offers words server w end
+    Unrouted : server.1 ≡ server.0 → ReportsMemory w end → Offers words server w end
+    Unheard : server.1 ≡ server.0 → FailsWithin w.output (listening_line words.port)
+        → IsUnreported w → end ≡ FileFailed → Offers words server w end
+    Served : HasServed words server w end → Offers words server w end
 
-  abbrev pub Serves : {R : Type 0} → Ghosts R → Port → Streams → JobEnd → R → R → Type 0
-  Serves registry port w end old new =
-      Offers port (registry.is_live old, registry.is_live new) w end
+module _ {L R : Type 0} (port_of : L → ℕ) (IsServing : L → Option (List ℕ) → Serving → Type 0)
+    (registry : Ghosts R) where
+  -- a registry was prepared, and then it served the streams
+  pub record Serves (words : ServeArgs) (w : Streams) (end : JobEnd) (old new : R) : Type 0 where
+    pub ready : R
+    pub prepared : IsPrepared registry old ready
+    pub offers : Offers port_of IsServing registry.is_live words (ready, new) w end

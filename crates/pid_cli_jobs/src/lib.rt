@@ -34,6 +34,6 @@ pub use named_file::{FileNames, NamedFile};
 pub use registries::Registries;
 pub use scripts::script;
 pub use segment::HostSegment;
-pub use serving::{Port, serve};
+pub use serving::serve;
 pub use unopened::{Unopened, report_unopened};
 pub use with_journal::{run_import, run_script, run_serve};

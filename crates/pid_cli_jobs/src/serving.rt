@@ -10,19 +10,13 @@ use crate::lines::write_count;
 use crate::machine::{Databases, Machine};
 use crate::registries::Registries;
 use crate::unopened::report_unopened;
+use pid_cli_args::ServeArgs;
 use pid_file::FAILED;
 use pid_http::{Routes, serve_with};
 use pid_http_stream::Served;
 use pid_http_stream::listener::{Serving, ServingEnd, StreamServer};
 use pid_ident::{Incoming, Output, write_all};
 use std::alloc::Global;
-
-/// The port that clients connect to, and the number of connections to serve, one after the other.
-#[derive(Clone, Copy)]
-pub struct Port {
-    pub number: u16,
-    pub connections: u32,
-}
 
 // A registry that answers the requests of one stream after the other, and has no other use: it is
 // handed to functions that are generic over their server.
@@ -96,20 +90,19 @@ fn give_streams<M: Machine, T: StreamServer, O: Output, F: Output>(
     machine: &mut M,
     listener: &M::Listener,
     server: &mut T,
-    port: Port,
+    words: &ServeArgs<'_>,
     output: &mut O,
     faults: &mut F,
 ) -> JobEnd
-    requires { M.port_of listener.now ≡ port.number }
+    requires { M.port_of listener.now ≡ words.now.port }
     ensures goes { T.goes server.old server.new }
-    ensures offers { Offers M.port_of M.is_serving port (T.live server.old, T.live server.new)
+    ensures offers { Offers M.port_of M.is_serving T.live words.now (server.old, server.new)
         (streams (use_of O.Output output.old output.new)
         (use_of F.Output faults.old faults.new)) result }
 {
-    let number = u64::from(port.number);
-    match write_count("listening on 127.0.0.1:", number, output) {
+    match write_count("listening on 127.0.0.1:", u64::from(words.port), output) {
         Ok(()) => {
-            let serving = machine.serve(listener, output, server, port.connections);
+            let serving = machine.serve(listener, output, server, words.connections);
             report(serving, output, faults)
         }
         Err(_) => JobEnd::FileFailed,
@@ -121,17 +114,17 @@ fn serve_registry<M: Machine, G: Registries<M>, O: Output, F: Output>(
     machine: &mut M,
     registries: &G,
     registry: &mut G::Registry,
-    port: Port,
+    words: &ServeArgs<'_>,
     output: &mut O,
     faults: &mut F,
 ) -> JobEnd
     ensures goes { IsPartOfSession G.Registry.RegistryCalls registry.old registry.new }
-    ensures offers { Serves M.port_of M.is_serving G.Registry.RegistryCalls port (streams
-        (use_of O.Output output.old output.new) (use_of F.Output faults.old faults.new)) result
-        registry.old registry.new }
+    ensures offers { Offers M.port_of M.is_serving G.Registry.is_live words.now
+        (registry.old, registry.new) (streams (use_of O.Output output.old output.new)
+        (use_of F.Output faults.old faults.new)) result }
 {
     let alloc = machine.alloc();
-    let Some(listener) = machine.listen(port.number) else {
+    let Some(listener) = machine.listen(words.port) else {
         return report_socket(faults);
     };
     let Ok(routes) = Routes::new(alloc) else {
@@ -143,10 +136,10 @@ fn serve_registry<M: Machine, G: Registries<M>, O: Output, F: Output>(
         registries,
         routes: &routes,
     };
-    give_streams(machine, &listener, &mut server, port, output, faults)
+    give_streams(machine, &listener, &mut server, words, output, faults)
 }
 
-/// Serves the registry at a path.
+/// Serves the registry that the arguments name.
 ///
 /// What is asked for again and again is read before it listens, so that nobody waits for it.
 /// Prints where it listens before it accepts the first connection, and the number of streams that
@@ -155,22 +148,20 @@ fn serve_registry<M: Machine, G: Registries<M>, O: Output, F: Output>(
 pub fn serve<M: Machine, G: Registries<M>, O: Output, F: Output>(
     machine: &mut M,
     registries: &mut G,
-    path: &str,
-    port: Port,
+    words: &ServeArgs<'_>,
     output: &mut O,
     faults: &mut F,
 ) -> JobEnd
-    ensures { Works G.Registry.RegistryCalls (G.is_opened registries.old path.now)
-        (G.is_unopened registries.old path.now) G.is_closed
-        (Serves M.port_of M.is_serving G.Registry.RegistryCalls port)
+    ensures { Works G.Registry.RegistryCalls (G.is_opened registries.old words.now.db.now)
+        (G.is_unopened registries.old words.now.db.now) G.is_closed
+        (Serves M.port_of M.is_serving G.Registry.RegistryCalls words.now)
         (streams (use_of O.Output output.old output.new)
         (use_of F.Output faults.old faults.new)) result }
 {
-    match registries.open(machine, path) {
-        Ok(registry) => {
-            let mut registry = registry;
+    match registries.open(machine, words.db) {
+        Ok(mut registry) => {
             registries.prepare(&mut registry);
-            let end = serve_registry(machine, registries, &mut registry, port, output, faults);
+            let end = serve_registry(machine, registries, &mut registry, words, output, faults);
             registries.close(machine, registry);
             end
         }

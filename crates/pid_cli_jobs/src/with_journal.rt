@@ -6,10 +6,10 @@ use crate::journals::Journals;
 use crate::machine::{Databases, Machine};
 use crate::registries::Registries;
 use crate::scripts::script;
-use crate::serving::{Port, serve};
+use crate::serving::serve;
 use crate::unopened::{Unopened, report_unopened};
-use pid_cli_args::ImportArgs;
 use pid_cli_args::terminal::Progress;
+use pid_cli_args::{ImportArgs, ServeArgs};
 use pid_ident::{Output, Plain};
 use std::io::Read;
 
@@ -37,7 +37,7 @@ pub fn run_script<
     F: Output,
 >(
     databases: &mut D,
-    registries: G,
+    mut registries: G,
     journals: &mut J,
     db: &str,
     journal: Option<&str>,
@@ -45,7 +45,6 @@ pub fn run_script<
     output: &mut O,
     faults: &mut F,
 ) -> JobEnd {
-    let mut registries = registries;
     let mut input = Plain::new(input);
     match open_folder(journals, journal) {
         Ok(None) => script(databases, &mut registries, db, &mut input, output, faults),
@@ -60,14 +59,13 @@ pub fn run_script<
 /// Imports the pci.ids file that the arguments name, and shows how far it is.
 pub fn run_import<M: Machine, G: Registries<M> + Copy, J: Journals, O: Output, F: Output>(
     machine: &mut M,
-    registries: G,
+    mut registries: G,
     journals: &mut J,
     progress: &mut Progress<'_>,
     words: &ImportArgs<'_>,
     output: &mut O,
     faults: &mut F,
 ) -> JobEnd {
-    let mut registries = registries;
     match open_folder(journals, words.journal) {
         Ok(None) => import(machine, &mut registries, progress, words, output, faults),
         Ok(Some(folder)) => {
@@ -78,23 +76,20 @@ pub fn run_import<M: Machine, G: Registries<M> + Copy, J: Journals, O: Output, F
     }
 }
 
-/// Serves the registry at a path.
+/// Serves the registry that the arguments name.
 pub fn run_serve<M: Machine, G: Registries<M> + Copy, J: Journals, O: Output, F: Output>(
     machine: &mut M,
-    registries: G,
+    mut registries: G,
     journals: &mut J,
-    db: &str,
-    journal: Option<&str>,
-    port: Port,
+    words: &ServeArgs<'_>,
     output: &mut O,
     faults: &mut F,
 ) -> JobEnd {
-    let mut registries = registries;
-    match open_folder(journals, journal) {
-        Ok(None) => serve(machine, &mut registries, db, port, output, faults),
+    match open_folder(journals, words.journal) {
+        Ok(None) => serve(machine, &mut registries, words, output, faults),
         Ok(Some(folder)) => {
             let mut registries = Journaling::new(registries, folder);
-            serve(machine, &mut registries, db, port, output, faults)
+            serve(machine, &mut registries, words, output, faults)
         }
         Err(why) => report_unopened(why, faults),
     }

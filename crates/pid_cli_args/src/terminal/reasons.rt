@@ -73,13 +73,13 @@ fn reason_within(rt: &HostRuntime, path: &str) -> &'static str {
 
 /// Says why a port could not be listened on, of a job that does.
 pub fn explain_port(rt: &HostRuntime, job: Job<'_>) {
-    let Job::Serve { port, .. } = job else {
+    let Job::Serve(words) = job else {
         return;
     };
-    let address = SocketAddr::new(IpAddr::V4(Ipv4Addr::new(127, 0, 0, 1)), port);
+    let address = SocketAddr::new(IpAddr::V4(Ipv4Addr::new(127, 0, 0, 1)), words.port);
     let (front, reason) = match TcpListener::bind(rt, address) {
         Err(error) => ("cannot listen on port ", reason_of(error.kind())),
         Ok(_) => ("cannot go on with port ", "it failed, but is free now"),
     };
-    say(rt, front, Buffer::new().format(port), ": ", reason);
+    say(rt, front, Buffer::new().format(words.port), ": ", reason);
 }

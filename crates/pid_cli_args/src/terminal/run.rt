@@ -150,7 +150,7 @@ fn files_of(job: Job<'_>) -> (&str, Option<&str>, Option<&str>) {
         Job::Lookup(words) => ("", None, Some(words.ids)),
         Job::Script { db, journal } => (db.unwrap_or(""), journal, None),
         Job::Import(words) => (words.db, words.journal, Some(words.ids)),
-        Job::Serve { db, journal, .. } => (db, journal, None),
+        Job::Serve(words) => (words.db, words.journal, None),
         Job::Export { db } | Job::Migrate { db } => (db, None, None),
     }
 }

@@ -15,8 +15,8 @@ returns-in-Ok-clause-offers g c =
       listener = c.args.listener.now;
       at_port = c.requires;
       between = w.after;
-      listens = subst (λ n. Appends w.before w.after (count_line word n)) c.from-number.ensures
-          (taken_whole w (count_line word c.from-number.result) c.write_count.result
+      listens = subst (λ n. Appends w.before w.after (count_line word n)) c.from.ensures
+          (taken_whole w (count_line word c.from.result) c.write_count.result
           c.in-Ok.field-0 c.in-Ok.is c.write_count.ensures.sent);
       serving = c.serve-serving.result;
       serves = c.serve-serving.ensures.serving;
@@ -29,7 +29,7 @@ pub returns-in-Err-clause-offers : goal.returns-in-Err-clause-offers
 returns-in-Err-clause-offers g c =
     let w = use_of g.O.Output c.args.output.now c.write_count.new.output in
     let word = codes "listening on 127.0.0.1:" in
-    Unheard (subst (λ n. FailsWithin w (count_line word n)) c.from-number.ensures
-    (taken_in_part w (count_line word c.from-number.result) c.write_count.result
+    Unheard refl (subst (λ n. FailsWithin w (count_line word n)) c.from.ensures
+    (taken_in_part w (count_line word c.from.result) c.write_count.result
     c.in-Err.field-0 c.in-Err.is c.write_count.ensures.sent c.write_count.ensures.fault))
     refl refl

@@ -13,7 +13,11 @@ returns-in-Ok g c = Session (record {
     calls = nothing_sent ∷ c.serve_registry-end.ensures.goes.calls;
     lead = (c.prepare.new.registry, c.prepare.ensures.calls, c.serve_registry-end.ensures.goes.lead);
   };
-  does = rw c.prepare.ensures.lives at c.serve_registry-end.ensures.offers;
+  does = record {
+    ready = c.prepare.new.registry;
+    prepared = c.prepare.ensures;
+    offers = c.serve_registry-end.ensures.offers;
+  };
   closes = c.close.ensures;
 })
 
