@@ -3,7 +3,7 @@ ghost use Rattle.std.specs.Prelude.{◌≡◌, IfOk};
 ghost use Rattle.clap.specs.Words.{app_of};
 ghost use Rattle.pid_cli_args.specs.Commands.{commands as the_commands, program as the_program};
 
-use crate::subcommand::{Argument, Row, with_rows};
+use crate::command_tables::{Argument, Row, with_rows};
 use clap::Command;
 use pid_cli_help::{
     CHECK, EXPORT, HELP, IMPORT, LOOKUP, MIGRATE, SCRIPT, SERVE, TIDY, USAGE, VERSION,

@@ -1,11 +1,11 @@
 //! The command line of the program, and what a person at a terminal reads.
 #![tactic(auto)]
 
+mod command_tables;
 mod commands;
 mod job;
 mod job_named;
 mod no_job;
-mod subcommand;
 pub mod terminal;
 
 pub use job::{ImportArgs, Job, LookupArgs, ServeArgs};

@@ -2,7 +2,7 @@ use Rattle.std.proofs.Common.{◌||◌, ◌∙◌, arith, sym}
 use Rattle.std.proofs.lemmas.List.Sums.{fold_more}
 use Rattle.clap.specs.Words.{app_of, with_rule}
 use Rattle.pid_cli_args.specs.Steps.Tables.{with_argument}
-use Rattle.pid_cli_args.proofs.subcommand.with_arguments.Goals as goal
+use Rattle.pid_cli_args.proofs.command_tables.with_arguments.Goals as goal
 
 pub loop-argument-preserved : goal.loop-argument-preserved
 loop-argument-preserved c =

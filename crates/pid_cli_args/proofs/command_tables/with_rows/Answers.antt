@@ -2,7 +2,7 @@ use Rattle.std.proofs.Common.{◌∙◌, arith, sym}
 use Rattle.std.proofs.lemmas.List.Sums.{fold_more}
 use Rattle.clap.specs.Words.{app_of, with_subcommand}
 use Rattle.pid_cli_args.specs.Steps.Tables.{with_row}
-use Rattle.pid_cli_args.proofs.subcommand.with_rows.Goals as goal
+use Rattle.pid_cli_args.proofs.command_tables.with_rows.Goals as goal
 
 pub loop-row-preserved : goal.loop-row-preserved
 loop-row-preserved c = c.in_ok-command.ensures.shape c.in-Ok.ensures.1

@@ -1,7 +1,7 @@
 use Rattle.std.proofs.Common.{Some, ap, ◌∙◌}
 use Rattle.clap.specs.Words.{rule_of}
 use Rattle.clap.specs.declared.builder.arg.Arg.{Arg}
-use Rattle.pid_cli_args.proofs.subcommand.option_of.Goals as goal
+use Rattle.pid_cli_args.proofs.command_tables.option_of.Goals as goal
 
 pub returns : goal.returns
 returns c =
