@@ -221,6 +221,12 @@ def disturbed(cases, pair, ends):
     pair.main.kill(server)
     server = pair.serve(0)
     cases.equal("failover: over a start", comes(len(pair.keys_in(0)) + 20), True)
+    # A segment ends where its last command has its mark, as it has while nothing is asked.
+    pair.main.kill(load)
+    time.sleep(1)
+    pair.main.kill(server)
+    server, load = pair.serve(0), pair.load(1_000_000)
+    cases.equal("failover: in another segment", comes(len(pair.keys_in(0)) + 20), True)
     cases.equal("failover: another segment began", len(names_in(pair.journals[1])) > 1, True)
     pair.main.kill(server, sshd, load)
     pair.standby.kill(following)
