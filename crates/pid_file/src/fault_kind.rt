@@ -62,6 +62,7 @@ impl LineKind {
     }
 }
 
+// As a derived one, without an arm for each variant.
 impl fmt::Debug for LineKind {
     fn fmt<W: fmt::Write>(&self, f: &mut fmt::Formatter<W>) -> fmt::Result {
         f.write_str(self.word())
