@@ -8,7 +8,7 @@ pub fn is_for_a_person(rt: &HostRuntime) -> bool {
 }
 
 /// Writes the parts of a line to standard error, up to the first that fails. With `write!` the first
-/// program would contain what formats text, and take longer to build.
+/// program would contain what formats text.
 pub(crate) fn say(rt: &HostRuntime, parts: &[&str]) {
     for part in parts {
         if rt.stderr().write_all(part.as_bytes()).is_err() {
