@@ -1,12 +1,13 @@
 -- The counts that a journal says are compared with those of a registry.
-use Rattle.std.proofs.Common.{◌≡◌, inl, inr, ℕ, suc, ◌+◌, ◌<◌, ◌≤◌, Bool, true, false, cond, List, [], ◌∷◌, ◌++◌, length, Option, Some, None, Result, Ok, Err, refl, sym, ap, subst, ◌∙◌, arith, append_assoc}
-use Rattle.std.specs.Prelude.{nat_le, nat_lt, not, ◌||◌, ◌==◌, find, filter_map, slice_index_or, IsSorted, MatchResult, is_some, option_map, unwrap_or}
+use Rattle.std.proofs.Common.{◌≡◌, ◌⊎◌, inl, inr, ℕ, suc, ◌+◌, ◌<◌, ◌≤◌, Bool, true, false, cond, List, [], ◌∷◌, ◌++◌, length, Option, Some, None, Result, Ok, Err, refl, sym, ap, subst, ◌∙◌, arith, append_assoc}
+use Rattle.std.specs.Prelude.{nat_le, nat_lt, ◌==◌, find, filter_map, slice_index_or, IsSorted, MatchOption, MatchResult, option_map, unwrap_or}
 use Rattle.std.specs.List.{cons_option}
 use Rattle.std.specs.Ordering.{is_lt, nat_cmp}
 use Rattle.std.specs.declared.cmp.Ordering.TheVariants.{Less, Equal, Greater}
 use Rattle.std.proofs.lemmas.Bool.Decides.{nat_tests}
 use Rattle.pid_file.specs.WholeLines.{ended_pieces, whole_lines}
 use Rattle.pid_moderation.specs.History.{History}
+use Rattle.pid_moderation.specs.declared.refusal.Refusal.{Refusal}
 use Rattle.pid_moderation.specs.Views.{revision_of}
 use Rattle.pid_script.specs.ScriptLines.{is_idle_line}
 use Rattle.pid_service_laws.specs.Registries.{Showing}
@@ -17,8 +18,9 @@ use Rattle.pid_journal.specs.declared.open_fault.OpenFault.TheVariants.{Refused,
 use Rattle.pid_journal.specs.declared.placing.Place.{Place}
 use Rattle.pid_journal.specs.declared.placing.Step.TheVariants.{Behind, Nowhere}
 use Rattle.pid_journal.specs.Journals.{counts_held, counts_said}
-use Rattle.pid_journal.specs.Openings.{HaveNotes, IsNewerThan, IsRefused, StandsIn, revision_after, said_since}
-use Rattle.pid_journal.specs.Steps.Comparing.{AreOthers, Compares, ComparesOn, FaultsAt, FitsGap, IsOlderAt, OfBegun, OfLast, OfSegment, RefusesOther, SkipsLate}
+use Rattle.pid_journal.specs.Openings.{StandsIn, revision_after, said_since}
+use Rattle.pid_journal.specs.Steps.Faults.{IsRefused}
+use Rattle.pid_journal.specs.Steps.Comparing.{AreOthers, Compares, ComparesOn, FaultsAt, FitsGap, IsNewerThan, IsOlderAt, IsWithin, OfBegun, OfLast, OfSegment, RefusesOther, SkipsLate}
 use Rattle.pid_journal.specs.Steps.Segments.{HasBegun, IsSameFolder, TellsRevision}
 use Rattle.pid_journal.proofs.Places.{none_left, revision_counted}
 use Rattle.pid_journal.proofs.Reading.{said_is_idle}
@@ -62,32 +64,12 @@ after_still most line lines none idle = λ i. revision_after (cond (idle i) (unw
 pub after_more : (most : ℕ) (line : List ℕ) (lines : List (List ℕ)) → is_idle_line line ≡ false → revision_after most (line ∷ lines) ≡ revision_after (most + 1) lines
 after_more most line lines off = λ i. revision_after (cond (off i) (unwrap_or (option_map (λ (x : Counts). x.revision) (counts_said line)) most) (most + 1)) lines
 
-noted_next : (noted next : Bool) (line : List ℕ) (lines : List (List ℕ)) → cond (is_idle_line line) (is_some (counts_said line) || noted) false ≡ next → HaveNotes noted (line ∷ lines) → HaveNotes next lines
-noted_next noted next line lines is all = subst (λ (b : Bool). HaveNotes b lines) is all.1
-
-pub noted_said : (noted : Bool) (k : Counts) (line : List ℕ) (lines : List (List ℕ)) → counts_said line ≡ Some k → HaveNotes noted (line ∷ lines) → HaveNotes true lines
-noted_said noted k line lines says = noted_next noted true line lines (λ i. cond (said_is_idle line k says i) (is_some (says i) || noted) false)
-
-pub noted_still : (noted : Bool) (line : List ℕ) (lines : List (List ℕ)) → counts_said line ≡ None → is_idle_line line ≡ true → HaveNotes noted (line ∷ lines) → HaveNotes noted lines
-noted_still noted line lines none idle = noted_next noted noted line lines (λ i. cond (idle i) (is_some (none i) || noted) false)
-
-pub noted_off : (noted : Bool) (line : List ℕ) (lines : List (List ℕ)) → is_idle_line line ≡ false → HaveNotes noted (line ∷ lines) → HaveNotes false lines
-noted_off noted line lines off = noted_next noted false line lines (λ i. cond (off i) (is_some (counts_said line) || noted) false)
-
-not_both : (b : Bool) → b ≡ true → not b ≡ true → ⊥
-not_both true on off = let no : ⊥ = cc in no
-not_both false on off = let no : ⊥ = cc in no
-
--- a command that no comment is above
-pub unnoted_line : {P : Type 0} (noted : Bool) (line : List ℕ) (lines : List (List ℕ)) → is_idle_line line ≡ false → not noted ≡ true → HaveNotes noted (line ∷ lines) → P
-unnoted_line noted line lines off none all = absurd (not_both noted (all.0 off) none)
-
 not_under : (a b : ℕ) → a < b → b ≤ a → ⊥
 not_under a b lt le = omega arith
 
 -- below one there is none that is late
-pub noted_older : {P : Type 0} (now : Counts) (place : Place) (line : List ℕ) (lines : List (List ℕ)) → is_idle_line line ≡ false → IsOlderAt now place → now.revision ≤ place.most → HaveNotes place.noted (line ∷ lines) → P
-noted_older now place line lines off older late all = absurd (not_under place.most now.revision (older (all.0 off)) late)
+pub noted_older : {P : Type 0} (now : Counts) (place : Place) → place.noted ≡ true → IsOlderAt now place → now.revision ≤ place.most → P
+noted_older now place noted older late = absurd (not_under place.most now.revision (older noted) late)
 
 -- ALL LINES
 
@@ -96,21 +78,19 @@ pub record IsComparing (text rest : List ℕ) (now : Counts) (begin : ℕ) (plac
   pub is : IsOlderAt now place
   pub same : said_since now.revision (whole_lines text) ≡ said_since now.revision (whole_lines rest)
   pub most : revision_after begin (whole_lines text) ≡ revision_after place.most (whole_lines rest)
-  pub noted : HaveNotes false (whole_lines text) → HaveNotes place.noted (whole_lines rest)
 
 pub compares_first : (text : List ℕ) (now : Counts) (begin : ℕ) → IsComparing text text now begin (record { noted = false; most = begin })
-compares_first text now begin = record { is = λ on. absurd (let no : ⊥ = cc in no); same = refl; most = refl; noted = λ all. all }
+compares_first text now begin = record { is = λ on. absurd (let no : ⊥ = cc in no); same = refl; most = refl }
 
 pub compares_on : (text rest behind line : List ℕ) (now : Counts) (begin : ℕ) (place next : Place) (at : IsComparing text rest now begin place) → whole_lines rest ≡ line ∷ whole_lines behind
     → ComparesOn (Behind next) now place line (whole_lines behind) → IsComparing text behind now begin next
-compares_on text rest behind line now begin place next at first (is, same, far, noted) = record {
+compares_on text rest behind line now begin place next at first (is, same, far) = record {
   is = is;
   same = at.same ∙ ap (said_since now.revision) first ∙ same;
   most = at.most ∙ ap (revision_after place.most) first ∙ far;
-  noted = λ all. noted (subst (λ (ls : List (List ℕ)). HaveNotes place.noted ls) first (at.noted all));
 }
 
-pub compares_here : (text rest behind line : List ℕ) (now : Counts) (begin : ℕ) (place : Place) (at : IsComparing text rest now begin place) → whole_lines rest ≡ line ∷ whole_lines behind → said_since now.revision (line ∷ whole_lines behind) ≡ Some now → StandsIn now begin (whole_lines text)
+pub compares_here : (text rest behind line : List ℕ) (now : Counts) (begin : ℕ) (place : Place) (at : IsComparing text rest now begin place) → whole_lines rest ≡ line ∷ whole_lines behind → said_since now.revision (line ∷ whole_lines behind) ≡ Some now → IsWithin now begin (whole_lines text)
 compares_here text rest behind line now begin place at first is = inl (at.same ∙ ap (said_since now.revision) first ∙ is)
 
 pub compares_refused : (now : Counts) (begin : ℕ) (lines : List (List ℕ)) (fault : OpenFault) → IsRefused fault → FaultsAt fault now begin lines
@@ -120,9 +100,8 @@ compares_refused now begin lines Newer is = absurd is
 compares_refused now begin lines Missing is = absurd is
 
 pub compares_nowhere : (text rest behind line : List ℕ) (now : Counts) (begin : ℕ) (place : Place) (at : IsComparing text rest now begin place) → whole_lines rest ≡ line ∷ whole_lines behind → ComparesOn Nowhere now place line (whole_lines behind) → FaultsAt Another now begin (whole_lines text)
-compares_nowhere text rest behind line now begin place at first others all =
-    let other = others (subst (λ (ls : List (List ℕ)). HaveNotes place.noted ls) first (at.noted all)) in
-    (other.0, at.same ∙ ap (said_since now.revision) first ∙ other.1, other.2)
+compares_nowhere text rest behind line now begin place at first others =
+    (others.0, at.same ∙ ap (said_since now.revision) first ∙ others.1, others.2)
 
 -- no line is left
 since_none : (text rest : List ℕ) (now : Counts) (begin : ℕ) (place : Place) → IsComparing text rest now begin place → ended_pieces rest ≡ [] → said_since now.revision (whole_lines text) ≡ None
@@ -138,10 +117,63 @@ compares_all (Ok x) text rest now begin place at none says =
 compares_all (Err fault) text rest now begin place at none says =
     subst (λ (e : OpenFault). FaultsAt e now begin (whole_lines text)) (sym says.0) (since_none text rest now begin place at none, subst (λ (n : ℕ). n < now.revision) (sym (after_last text rest now begin place at none)) says.1)
 
+-- WHERE THE REGISTRY STANDS
+
+up_to : (a b : ℕ) → a ≤ b → false ≡ nat_lt b a
+up_to a b le = grind (arith, nat_tests)
+
+past_it : (a b : ℕ) → b < a → true ≡ nat_lt b a
+past_it a b lt = grind (arith, nat_tests)
+
+counted : (h : History) → revision_of h ≡ (counts_held h).revision
+counted h = revision_counted h (counts_held h) refl
+
+-- what was said since then is said of the revision of the history
+since_held : (h : History) (lines : List (List ℕ)) (said : Option Counts) → said_since (counts_held h).revision lines ≡ said → said_since (revision_of h) lines ≡ said
+since_held h lines said is = ap (λ (n : ℕ). said_since n lines) (counted h) ∙ is
+
+-- what holds of the counts that are said is what holds where the registry stands
+abbrev At : Bool → (ℕ → List ℕ) → ℕ → History → Option Counts → Type 0
+At past text name h said = MatchOption said (past ≡ nat_lt (revision_after name (whole_lines (text name))) (revision_of h)) (λ counts. (counts ≡ counts_held h) × (past ≡ false))
+
+by_said : (past : Bool) (text : ℕ → List ℕ) (name : ℕ) (h : History) (o said : Option Counts) → o ≡ said → At past text name h said → At past text name h o
+by_said past text name h o said is holds = subst (At past text name h) (sym is) holds
+
+pub within : (text : ℕ → List ℕ) (name : ℕ) (h : History) → name ≤ revision_of h → IsWithin (counts_held h) name (whole_lines (text name)) → StandsIn false text name h
+within text name h begun (inl here) = (begun, by_said false text name h _ (Some (counts_held h)) (since_held h (whole_lines (text name)) (Some (counts_held h)) here) (refl, refl))
+within text name h begun (inr (none, late)) =
+    let most = revision_after name (whole_lines (text name)) in
+    (begun, by_said false text name h _ None (since_held h (whole_lines (text name)) None none) (up_to (revision_of h) most (subst (λ (n : ℕ). n ≤ most) (sym (counted h)) late)))
+
+pub beyond : (text : ℕ → List ℕ) (name : ℕ) (h : History) → name ≤ revision_of h → IsNewerThan (counts_held h) name (whole_lines (text name)) → StandsIn true text name h
+beyond text name h begun (none, newer) =
+    let most = revision_after name (whole_lines (text name)) in
+    (begun, by_said true text name h _ None (since_held h (whole_lines (text name)) None none) (past_it (revision_of h) most (subst (λ (n : ℕ). most < n) (sym (counted h)) newer)))
+
+pub neither : (text : ℕ → List ℕ) (name : ℕ) (h : History) → AreOthers (counts_held h) (said_since (counts_held h).revision (whole_lines (text name))) → (past : Bool) → StandsIn past text name h → ⊥
+neither text name h (k, says, other) past stands =
+    let is = since_held h (whole_lines (text name)) (Some k) says in
+    other (by_said past text name h (Some k) _ (sym is) stands.1).0
+
+pub fits : (gap : Bool) (text : ℕ → List ℕ) (name : ℕ) (h : History) → name ≤ revision_of h → FitsGap gap (counts_held h) name (whole_lines (text name)) → StandsIn gap text name h
+fits false text name h begun says = within text name h begun (says.0 refl)
+fits true text name h begun says = beyond text name h begun (says.1 refl)
+
+pub refused_as : (fault : OpenFault) → IsRefused fault → (refusal : Refusal) × (fault ≡ Refused refusal)
+refused_as (Refused refusal) is = (refusal, refl)
+refused_as Another is = absurd is
+refused_as Newer is = absurd is
+refused_as Missing is = absurd is
+
+pub refuses : (fault : OpenFault) (text : ℕ → List ℕ) (name : ℕ) (h : History) → RefusesOther fault (counts_held h) name (whole_lines (text name))
+    → ((refusal : Refusal) × (fault ≡ Refused refusal)) ⊎ ((fault ≡ Another) × ((past : Bool) → StandsIn past text name h → ⊥))
+refuses fault text name h (inl refused) = inl (refused_as fault refused)
+refuses fault text name h (inr (another, others)) = inr (another, neither text name h others)
+
 -- SEGMENTS
 
-pub stands_held : (now held : Counts) (begin : ℕ) (lines : List (List ℕ)) → held ≡ now → StandsIn now begin lines → StandsIn held begin lines
-stands_held now held begin lines is says = subst (λ (k : Counts). StandsIn k begin lines) (sym is) says
+pub stands_held : (now held : Counts) (begin : ℕ) (lines : List (List ℕ)) → held ≡ now → IsWithin now begin lines → IsWithin held begin lines
+stands_held now held begin lines is says = subst (λ (k : Counts). IsWithin k begin lines) (sym is) says
 
 pub faults_held : (fault : OpenFault) (now held : Counts) (begin : ℕ) (lines : List (List ℕ)) → held ≡ now → FaultsAt fault now begin lines → FaultsAt fault held begin lines
 faults_held fault now held begin lines is says = subst (λ (k : Counts). FaultsAt fault k begin lines) (sym is) says
@@ -267,23 +299,9 @@ module _ {R F J : Type 0} (w : Showing R) (folder : folders.Ghosts F J) where
       subst (λ (text : ℕ → List ℕ). P (counts_held h) name (whole_lines (text name))) same.1
       (says (honest clean) front name (read ∙ is) (same.0 ∙ known ∙ ap (λ (ns : List ℕ). Some ns) (sym read)) h shown (subst (λ (ns : List ℕ). HasBegun h ns) (sym read) begun))
 
-  -- with other counts the registry is neither in the lines nor past them
-  others_neither : (now : Counts) (begin : ℕ) (lines : List (List ℕ)) → AreOthers now (said_since now.revision lines) → (StandsIn now begin lines → ⊥) × (IsNewerThan now begin lines → ⊥)
-  others_neither now begin lines (k, says, other) = (neither, λ newer. never k (sym says ∙ newer.0))
-    where
-      never : (x : Counts) → Some x ≡ None → ⊥
-      never x is = cc
-
-      same : (x y : Counts) → Some x ≡ Some y → x ≡ y
-      same x y is = cc
-
-      neither : StandsIn now begin lines → ⊥
-      neither (inl here) = other (same k now (sym says ∙ here))
-      neither (inr late) = never k (sym says ∙ late.0)
-
   fault_gap : (now : Counts) (begin : ℕ) (lines : List (List ℕ)) (fault : OpenFault) → (fault ≡ Newer → ⊥) → FaultsAt fault now begin lines → RefusesOther fault now begin lines
   fault_gap now begin lines (Refused e) other says = inl tt
-  fault_gap now begin lines Another other says = inr (refl, λ noted. others_neither now begin lines (says noted))
+  fault_gap now begin lines Another other says = inr (refl, says)
   fault_gap now begin lines Newer other says = absurd (other refl)
   fault_gap now begin lines Missing other says = absurd says
 
@@ -293,9 +311,9 @@ module _ {R F J : Type 0} (w : Showing R) (folder : folders.Ghosts F J) where
       says clean front name is known h shown (λ above below n split. le_through n name (revision_of h) (up_to_last names front above below name n sorted is split) begun)
 
   -- the file was found after all segments
-  pub finds_same : (old mid new : R) (f g : F) (names begins : List ℕ) → IsSameFolder folder f g → begins ≡ names → (w.is_clean new → w.is_clean mid) → OfLast w folder old mid g begins StandsIn → OfLast w folder old new f names (FitsGap false)
+  pub finds_same : (old mid new : R) (f g : F) (names begins : List ℕ) → IsSameFolder folder f g → begins ≡ names → (w.is_clean new → w.is_clean mid) → OfLast w folder old mid g begins IsWithin → OfLast w folder old new f names (FitsGap false)
   finds_same old mid new f g names begins same read honest says clean front name is known h shown begun =
-      ((λ off. all_at old mid new f g names begins StandsIn same read honest says clean front name is known h shown begun), λ on. absurd (let no : ⊥ = cc in no))
+      ((λ off. all_at old mid new f g names begins IsWithin same read honest says clean front name is known h shown begun), λ on. absurd (let no : ⊥ = cc in no))
 
   pub finds_newer : (old mid new : R) (f g : F) (names begins : List ℕ) → IsSameFolder folder f g → begins ≡ names → (w.is_clean new → w.is_clean mid) → OfLast w folder old mid g begins (FaultsAt Newer) → OfLast w folder old new f names (FitsGap true)
   finds_newer old mid new f g names begins same read honest says clean front name is known h shown begun =

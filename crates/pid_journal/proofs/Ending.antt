@@ -14,7 +14,8 @@ use Rattle.pid_journal.specs.declared.open_fault.OpenFault.{OpenFault}
 use Rattle.pid_journal.specs.declared.segment_text.SegmentText.{SegmentText}
 use Rattle.pid_journal.specs.Doubts.{LeavesPart}
 use Rattle.pid_journal.specs.Journals.{AreTrue, JournalLeads, lines_in}
-use Rattle.pid_journal.specs.Openings.{IsNewName, IsRefused}
+use Rattle.pid_journal.specs.Openings.{IsNewName}
+use Rattle.pid_journal.specs.Steps.Faults.{IsRefused}
 use Rattle.pid_journal.specs.Pairs.{AddsMark}
 use Rattle.pid_journal.specs.Steps.Notes.{IsMark}
 use Rattle.pid_journal.specs.Steps.Parts.{MayBeMarked}

@@ -17,7 +17,8 @@ use Rattle.pid_journal.specs.declared.open_fault.OpenFault.TheVariants.{Newer}
 use Rattle.pid_journal.specs.declared.segment_text.SegmentText.{SegmentText}
 use Rattle.pid_journal.specs.Journals.{AreTrue, JournalLeads, lines_in}
 use Rattle.pid_journal.specs.Steps.Ways.{IsAlong, IsInSegments, IsOnWay}
-use Rattle.pid_journal.specs.Openings.{IsNewName, IsRefused, FollowsInTurn, StopsAtOne}
+use Rattle.pid_journal.specs.Openings.{IsNewName, FollowsInTurn, StopsAtOne}
+use Rattle.pid_journal.specs.Steps.Faults.{IsRefused}
 use Rattle.pid_journal.specs.Steps.Places.{IsOpenEnd}
 use Rattle.pid_journal.specs.Steps.Reads.{EndsAtLast, EndsAt, held_of}
 use Rattle.pid_journal.specs.Steps.Segments.{EndsLast, FaultsAlong, FollowsAll, FollowsSegment, HasBegun, HasComeTo, HasComeToFirst, HasComeToLast, IsSameFolder, KeepsShown, LinesMayBeObeyed, PassesSegment, ShowsWithin, TellsRevision}

@@ -20,7 +20,7 @@ use Rattle.pid_journal.specs.declared.open_fault.OpenFault.{OpenFault}
 use Rattle.pid_journal.specs.declared.open_fault.OpenFault.TheVariants.{Newer}
 use Rattle.pid_journal.specs.declared.placing.Place.{Place}
 use Rattle.pid_journal.specs.Journals.{counts_held, counts_said, AreTrue}
-use Rattle.pid_journal.specs.Openings.{IsRefused}
+use Rattle.pid_journal.specs.Steps.Faults.{IsRefused}
 use Rattle.pid_journal.specs.Steps.Ways.{IsOnWay}
 use Rattle.pid_journal.specs.Steps.Places.{IsAt, IsEndOf, IsPlaced}
 use Rattle.pid_journal.specs.Steps.Notes.{after_line, noted_after}

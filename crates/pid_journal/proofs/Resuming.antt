@@ -12,7 +12,7 @@ use Rattle.pid_journal.specs.declared.open_fault.OpenFault.{OpenFault}
 use Rattle.pid_journal.specs.declared.open_fault.OpenFault.TheVariants.{Refused, Another, Newer, Missing}
 use Rattle.pid_journal.specs.Journals.{counts_held, AreTrue, IsEntry, JournalLeads}
 use Rattle.pid_journal.specs.Steps.Ways.{IsOnWay}
-use Rattle.pid_journal.specs.Openings.{IsRefused}
+use Rattle.pid_journal.specs.Steps.Faults.{IsRefused}
 use Rattle.pid_journal.specs.Steps.Places.{IsOpenEnd}
 use Rattle.pid_journal.specs.Steps.Segments.{LinesMayBeObeyed}
 use Rattle.pid_journal.specs.Steps.Notes.{counts_in}

@@ -1,5 +1,6 @@
 -- What serves private functions alone; no promise rests on it.
 pub mod Notes
+pub mod Faults
 pub mod Parts
 pub mod Ways
 pub mod Living

@@ -33,12 +33,14 @@ pub struct Place {
     pub most: u64,
 }
 
-/// The place of a registry: at a comment, or after a line; or it has none in this journal.
+/// The place of a registry: at a comment, or after a line; or it has none in this journal. No journal
+/// has a command below no comment.
 #[derive(Clone, Copy)]
 pub enum Step {
     Here,
     Behind(Place),
     Nowhere,
+    Unnoted,
 }
 
 fn said_by(alloc: Global, line: &[u8]) -> Result<LineCounts, AllocError>
@@ -73,7 +75,7 @@ fn judge_line(said: LineCounts, now: Counts, place: Place) -> Step
         LineCounts::Nothing => Step::Behind(place),
         LineCounts::Other => {
             if !place.noted {
-                return Step::Nowhere;
+                return Step::Unnoted;
             }
             if now.revision <= place.most {
                 return Step::Nowhere;
@@ -132,6 +134,7 @@ pub fn find_place<F: JournalFolder>(
             Step::Here => return Ok(()),
             Step::Behind(next) => place = next,
             Step::Nowhere => return Err(OpenFault::Another),
+            Step::Unnoted => return Err(OpenFault::Refused(Refusal::Store)),
         }
     }
     Err(OpenFault::Refused(Refusal::Store))

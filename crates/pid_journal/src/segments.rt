@@ -15,7 +15,7 @@ ghost use Rattle.std.specs.Prelude.{
   MatchResult,
 };
 ghost use Rattle.std.specs.Ordering.{nat_cmp};
-ghost use Rattle.pid_journal.specs.Openings.{IsRefused};
+ghost use Rattle.pid_journal.specs.Steps.Faults.{IsRefused};
 ghost use Rattle.pid_journal.specs.Steps.Comparing.{BringsOn, ComparesAll, SkipsLate};
 ghost use Rattle.pid_journal.specs.Steps.Reads.{EndsAtLast};
 ghost use Rattle.pid_journal.specs.Steps.Segments.{

@@ -1,5 +1,5 @@
 -- The counts that a journal says, compared with those of a registry.
-use Rattle.std.specs.Prelude.{◌≡◌, ◌≢◌, ◌⊎◌, ◌<◌, ◌≤◌, ℕ, Bool, true, false, List, [], ◌∷◌, ◌++◌, Option, Some}
+use Rattle.std.specs.Prelude.{◌≡◌, ◌≢◌, ◌⊎◌, ◌<◌, ◌≤◌, ℕ, Bool, true, false, List, [], ◌∷◌, ◌++◌, Option, Some, None}
 use Rattle.std.specs.Prelude.{Result, MatchResult}
 use Rattle.pid_file.specs.WholeLines.{whole_lines}
 use Rattle.pid_moderation.specs.History.{History}
@@ -13,12 +13,21 @@ use Rattle.pid_journal.specs.declared.open_fault.OpenFault.TheVariants.{Another,
 use Rattle.pid_journal.specs.declared.placing.Place.{Place}
 use Rattle.pid_journal.specs.declared.placing.LineCounts.{LineCounts}
 use Rattle.pid_journal.specs.declared.placing.Step.{Step}
-use Rattle.pid_journal.specs.declared.placing.Step.TheVariants.{Here, Behind, Nowhere}
+use Rattle.pid_journal.specs.declared.placing.Step.TheVariants.{Here, Behind, Nowhere, Unnoted}
 use Rattle.pid_journal.specs.Journals.{counts_held}
-use Rattle.pid_journal.specs.Openings.{HaveNotes, IsNewerThan, IsRefused, StandsIn, said_since}
-use Rattle.pid_journal.specs.Openings.{FollowsInTurn, StopsAtOne, revision_after}
+use Rattle.pid_journal.specs.Openings.{FollowsInTurn, StopsAtOne, revision_after, said_since}
+use Rattle.pid_journal.specs.Steps.Faults.{IsRefused}
 use Rattle.pid_journal.specs.Steps.Places.{IsSaid}
 use Rattle.pid_journal.specs.Steps.Segments.{HasBegun, IsSameFolder, StaysOrMoved}
+
+-- A registry with these counts is where they are said, or after all lines if none are said that are no older.
+abbrev pub IsWithin : Counts → ℕ → List (List ℕ) → Type 0
+IsWithin now begin lines = (said_since now.revision lines ≡ Some now)
+    ⊎ ((said_since now.revision lines ≡ None) × (now.revision ≤ revision_after begin lines))
+
+-- it has commands that come after all lines
+abbrev pub IsNewerThan : Counts → ℕ → List (List ℕ) → Type 0
+IsNewerThan now begin lines = (said_since now.revision lines ≡ None) × (revision_after begin lines < now.revision)
 
 -- no older counts, and others
 abbrev pub AreOthers : Counts → Option Counts → Type 0
@@ -33,9 +42,8 @@ ComparesOn Here now place line lines = said_since now.revision (line ∷ lines) 
 ComparesOn (Behind next) now place line lines = IsOlderAt now next
     × (said_since now.revision (line ∷ lines) ≡ said_since now.revision lines)
     × (revision_after place.most (line ∷ lines) ≡ revision_after next.most lines)
-    × (HaveNotes place.noted (line ∷ lines) → HaveNotes next.noted lines)
-ComparesOn Nowhere now place line lines = HaveNotes place.noted (line ∷ lines)
-    → AreOthers now (said_since now.revision (line ∷ lines))
+ComparesOn Nowhere now place line lines = AreOthers now (said_since now.revision (line ∷ lines))
+ComparesOn Unnoted now place line lines = Unit {0}
 
 abbrev pub ComparesLine : LineCounts → Counts → Place → Step → Type 0
 ComparesLine said now place step = (line : List ℕ) (lines : List (List ℕ))
@@ -44,22 +52,22 @@ ComparesLine said now place step = (line : List ℕ) (lines : List (List ℕ))
 -- what a fault says of a registry that has come to the segment
 abbrev pub FaultsAt : OpenFault → Counts → ℕ → List (List ℕ) → Type 0
 FaultsAt (Refused refusal) now begin lines = Unit {0}
-FaultsAt Another now begin lines = HaveNotes false lines → AreOthers now (said_since now.revision lines)
+FaultsAt Another now begin lines = AreOthers now (said_since now.revision lines)
 FaultsAt Newer now begin lines = IsNewerThan now begin lines
 FaultsAt Missing now begin lines = ⊥
 
 abbrev pub Compares : {X : Type 0} → Counts → ℕ → List (List ℕ) → Result X OpenFault → Type 0
-Compares now begin lines result = MatchResult result (λ x. StandsIn now begin lines)
+Compares now begin lines result = MatchResult result (λ x. IsWithin now begin lines)
     (λ fault. FaultsAt fault now begin lines)
 
 -- whether there is a gap
 abbrev pub FitsGap : Bool → Counts → ℕ → List (List ℕ) → Type 0
-FitsGap gap now begin lines = (gap ≡ false → StandsIn now begin lines)
+FitsGap gap now begin lines = (gap ≡ false → IsWithin now begin lines)
     × (gap ≡ true → IsNewerThan now begin lines)
 
 abbrev pub RefusesOther : OpenFault → Counts → ℕ → List (List ℕ) → Type 0
-RefusesOther fault now begin lines = IsRefused fault ⊎ ((fault ≡ Another) × (HaveNotes false lines
-    → (StandsIn now begin lines → ⊥) × (IsNewerThan now begin lines → ⊥)))
+RefusesOther fault now begin lines = IsRefused fault
+    ⊎ ((fault ≡ Another) × AreOthers now (said_since now.revision lines))
 
 module _ {R : Type 0} (w : Showing R) where
   -- a registry that has come to the beginning of the next segment
@@ -81,11 +89,11 @@ module _ {R : Type 0} (w : Showing R) where
         → HasBegun h names → P (counts_held h) name (whole_lines (folder.text_in f name))
 
     abbrev pub ComparesSegment : {X : Type 0} → R → R → F → ℕ → Result X OpenFault → Type 0
-    ComparesSegment old new f name result = MatchResult result (λ x. OfSegment old new f name StandsIn)
+    ComparesSegment old new f name result = MatchResult result (λ x. OfSegment old new f name IsWithin)
         (λ fault. OfSegment old new f name (FaultsAt fault))
 
     abbrev pub ComparesAll : {X : Type 0} → R → R → F → List ℕ → Result X OpenFault → Type 0
-    ComparesAll old new f names result = MatchResult result (λ x. OfLast old new f names StandsIn)
+    ComparesAll old new f names result = MatchResult result (λ x. OfLast old new f names IsWithin)
         (λ fault. OfLast old new f names (FaultsAt fault))
 
     -- the same, where it is enough that the last one has begun

@@ -13,11 +13,11 @@ use Rattle.pid_journal.specs.declared.placing.Place.{Place}
 use Rattle.pid_journal.specs.declared.placing.LineCounts.{LineCounts}
 use Rattle.pid_journal.specs.declared.placing.LineCounts.TheVariants.{Holds, Nothing, Other}
 use Rattle.pid_journal.specs.declared.placing.Step.{Step}
-use Rattle.pid_journal.specs.declared.placing.Step.TheVariants.{Here, Behind, Nowhere}
+use Rattle.pid_journal.specs.declared.placing.Step.TheVariants.{Here, Behind, Nowhere, Unnoted}
 use Rattle.pid_journal.specs.Journals.{counts_held, counts_said}
 use Rattle.pid_journal.specs.Steps.Notes.{after_line}
 use Rattle.pid_journal.specs.Steps.Ways.{IsOnWay}
-use Rattle.pid_journal.specs.Openings.{IsRefused}
+use Rattle.pid_journal.specs.Steps.Faults.{IsRefused}
 
 -- the text ends so, after whole lines
 pub record IsEndOf (text rest : List ℕ) : Type 0 where
@@ -47,6 +47,7 @@ abbrev pub LeadsToPlace : Step → (shown h : History) → List ℕ → List (Li
 LeadsToPlace Here shown h line lines = after_line h line ≡ shown
 LeadsToPlace (Behind place) shown h line lines = IsPlaced shown (after_line h line) place lines
 LeadsToPlace Nowhere shown h line lines = ⊥
+LeadsToPlace Unnoted shown h line lines = Unit {0}
 
 abbrev pub IsNextPlace : LineCounts → Counts → Place → Step → Type 0
 IsNextPlace said now place step = (shown h : History) (line : List ℕ) (lines : List (List ℕ))

@@ -15,7 +15,8 @@ use Rattle.pid_journal.specs.declared.open_fault.OpenFault.TheVariants.{Another,
 use Rattle.pid_journal.specs.declared.segment_text.SegmentText.{SegmentText}
 use Rattle.pid_journal.specs.Journals.{AreTrue, lines_in}
 use Rattle.pid_journal.specs.Steps.Ways.{IsAlong, IsInSegments, IsOnWay}
-use Rattle.pid_journal.specs.Openings.{IsNewName, IsRefused, StopsAtOne}
+use Rattle.pid_journal.specs.Openings.{IsNewName, StopsAtOne}
+use Rattle.pid_journal.specs.Steps.Faults.{IsRefused}
 
 -- a fault that leaves open whether the registry obeyed lines
 abbrev pub LinesMayBeObeyed : OpenFault → Type 0

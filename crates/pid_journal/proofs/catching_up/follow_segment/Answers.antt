@@ -6,8 +6,7 @@ use Rattle.pid_journal.specs.Steps.Places.{FindsPlace, IsAt, IsEndOf, IsOpenEnd}
 use Rattle.pid_journal.specs.Steps.Reads.{left_in}
 use Rattle.pid_journal.specs.declared.open_fault.OpenFault.TheVariants.{Refused}
 use Rattle.pid_journal.specs.Journals.{counts_held}
-use Rattle.pid_journal.specs.Openings.{StandsIn}
-use Rattle.pid_journal.specs.Steps.Comparing.{FaultsAt}
+use Rattle.pid_journal.specs.Steps.Comparing.{FaultsAt, IsWithin}
 use Rattle.pid_journal.proofs.Comparing.{compares_refused, faults_held, not_missing, stands_held}
 use Rattle.pid_script.specs.Replies.{history_after}
 use Rattle.pid_journal.proofs.ObeyedInTurn.{stops_still}
@@ -111,7 +110,7 @@ returns-in-Ok-follow-clause-brings g c = record {
       let reads = c.find_place.ensures.reads in
       let told = c.in-Ok.ensures.told (c.follow.ensures.honest clean) h shown in
       let held = counted_status _ h told.0 ∙ sym c.counts_of-now.ensures in
-      let stands = text_whole g.F.JournalFolder c.args.folder.now c.new-text.result c.args.begin (λ bytes all. StandsIn c.counts_of-now.result c.args.begin (whole_lines bytes)) c.new-text.ensures.begin c.new-text.ensures.left c.in-Ok-find_place.ensures.compared names known in
+      let stands = text_whole g.F.JournalFolder c.args.folder.now c.new-text.result c.args.begin (λ bytes all. IsWithin c.counts_of-now.result c.args.begin (whole_lines bytes)) c.new-text.ensures.begin c.new-text.ensures.left c.in-Ok-find_place.ensures.compared names known in
       let end = text_whole g.F.JournalFolder c.args.folder.now c.new-text.result c.args.begin (λ bytes all. IsEndOf bytes (left_in c.find_place.new.text all)) c.new-text.ensures.begin c.new-text.ensures.left c.in-Ok-find_place.ensures.parts names known in
       let obeyed = text_at g.F.JournalFolder c.args.folder.now c.find_place.new.folder c.find_place.new.text c.args.begin (λ all. FollowsLines g.R.RegistryCalls.showing {X = Unit {0}} c.status.new.self c.follow.new.registry (left_in c.find_place.new.text all) (Ok tt))
       reads.same (reads.begin ∙ c.new-text.ensures.begin) c.in-Ok-follow.ensures.obeyed names known clean h told.1 in (
@@ -133,7 +132,7 @@ returns-in-Err-follow-clause-brings g c = record {
       let reads = c.find_place.ensures.reads in
       let told = c.in-Ok.ensures.told (c.follow.ensures.honest clean) h shown in
       let held = counted_status _ h told.0 ∙ sym c.counts_of-now.ensures in
-      let stands = text_whole g.F.JournalFolder c.args.folder.now c.new-text.result c.args.begin (λ bytes all. StandsIn c.counts_of-now.result c.args.begin (whole_lines bytes)) c.new-text.ensures.begin c.new-text.ensures.left c.in-Ok-find_place.ensures.compared names known in
+      let stands = text_whole g.F.JournalFolder c.args.folder.now c.new-text.result c.args.begin (λ bytes all. IsWithin c.counts_of-now.result c.args.begin (whole_lines bytes)) c.new-text.ensures.begin c.new-text.ensures.left c.in-Ok-find_place.ensures.compared names known in
       let end = text_whole g.F.JournalFolder c.args.folder.now c.new-text.result c.args.begin (λ bytes all. IsEndOf bytes (left_in c.find_place.new.text all)) c.new-text.ensures.begin c.new-text.ensures.left c.in-Ok-find_place.ensures.parts names known in
       let stops = text_at g.F.JournalFolder c.args.folder.now c.find_place.new.folder c.find_place.new.text c.args.begin (λ all. FollowsLines g.R.RegistryCalls.showing {X = Unit {0}} c.status.new.self c.follow.new.registry (left_in c.find_place.new.text all) (Err c.in-Err-follow.refusal))
       reads.same (reads.begin ∙ c.new-text.ensures.begin) c.in-Err-follow.ensures.obeyed names known clean h told.1 in
@@ -160,7 +159,7 @@ returns-in-Err-find_place-clause-compared g c clean names known h shown begun =
 
 pub returns-in-Ok-follow-clause-compared : goal.returns-in-Ok-follow-clause-compared
 returns-in-Ok-follow-clause-compared g c clean names known h shown begun =
-    let compared = text_whole g.F.JournalFolder c.args.folder.now c.new-text.result c.args.begin (λ bytes all. StandsIn c.counts_of-now.result c.args.begin (whole_lines bytes)) c.new-text.ensures.begin c.new-text.ensures.left c.in-Ok-find_place.ensures.compared names known in
+    let compared = text_whole g.F.JournalFolder c.args.folder.now c.new-text.result c.args.begin (λ bytes all. IsWithin c.counts_of-now.result c.args.begin (whole_lines bytes)) c.new-text.ensures.begin c.new-text.ensures.left c.in-Ok-find_place.ensures.compared names known in
     stands_held c.counts_of-now.result (counts_held h) c.args.begin (whole_lines (g.F.JournalFolder.text_in c.args.folder.now c.args.begin)) (counted_status _ h (c.in-Ok.ensures.told (c.follow.ensures.honest clean) h shown).0 ∙ sym c.counts_of-now.ensures) compared
 
 -- the registry had come to where the segment begins

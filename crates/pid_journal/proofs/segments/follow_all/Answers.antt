@@ -1,5 +1,5 @@
 use Rattle.std.proofs.Common.{◌≡◌, refl, true, ◌∙◌}
-use Rattle.pid_journal.specs.Openings.{StandsIn}
+use Rattle.pid_journal.specs.Steps.Comparing.{IsWithin}
 use Rattle.pid_journal.proofs.Comparing.{fault_all, last_all, none_all, refused_all}
 use Rattle.pid_journal.proofs.InTurn.{came, ends_all, err_between, err_last, first_at_end, first_newer, first_turn, none_first, none_follows, not_newer, ok_last, stays_through, turns}
 use Rattle.pid_journal.proofs.ObeyedInTurn.{obeys_last, obeys_still, stops_last}
@@ -86,7 +86,7 @@ returns-in-Err-follow_segment-clause-brings g c = record {
 -- WHAT IS COMPARED
 
 pub returns-in_default-clause-compared : goal.returns-in_default-clause-compared
-returns-in_default-clause-compared g c = none_all g.R.RegistryCalls.showing g.F.JournalFolder c.args.registry.now c.args.folder.now c.args.begins.now StandsIn c.in_default.ensures
+returns-in_default-clause-compared g c = none_all g.R.RegistryCalls.showing g.F.JournalFolder c.args.registry.now c.args.folder.now c.args.begins.now IsWithin c.in_default.ensures
 
 pub returns-in-Err-clause-compared : goal.returns-in-Err-clause-compared
 returns-in-Err-clause-compared g c =
@@ -97,7 +97,7 @@ returns-in-Err-clause-compared g c =
 pub returns-in-Ok-follow_segment-clause-compared : goal.returns-in-Ok-follow_segment-clause-compared
 returns-in-Ok-follow_segment-clause-compared g c =
     let turn = c.loop-next.invariant in
-    last_all g.R.RegistryCalls.showing g.F.JournalFolder c.args.registry.now c.loop-next.registry c.follow_segment.new.registry c.args.folder.now c.loop-next.folder c.args.begins.now turn.at.0 c.loop-next.begin c.loop-next.rest.now StandsIn turn.at.1 c.in_default-first_of.ensures turn.same c.follow_segment.ensures.brings.honest
+    last_all g.R.RegistryCalls.showing g.F.JournalFolder c.args.registry.now c.loop-next.registry c.follow_segment.new.registry c.args.folder.now c.loop-next.folder c.args.begins.now turn.at.0 c.loop-next.begin c.loop-next.rest.now IsWithin turn.at.1 c.in_default-first_of.ensures turn.same c.follow_segment.ensures.brings.honest
     (λ clean h shown begun. (turn.past clean h shown begun).1) c.in-Ok-follow_segment.ensures.compared
 
 pub returns-in-Err-follow_segment-clause-compared : goal.returns-in-Err-follow_segment-clause-compared
