@@ -40,8 +40,7 @@ PROMISES = (
     # Two calls, and the laws of what they leave.
     ("11. The journal",
      ("pid_journal::Journaled::obey", "pid_journal::open_journal",
-      "pid_journal::stops_leave_the_way", "pid_journal::doubts_leave_either",
-      "pid_journal::journals_are_scripts", "pid_journal::entries_are_answered")),
+      "pid_journal::stops_leave_the_way", "pid_journal::entries_are_answered")),
 )
 
 # What a first reading of promise 7 may leave shut. A clause or a law gives what another one takes,

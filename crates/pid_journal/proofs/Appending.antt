@@ -1,8 +1,8 @@
 -- An entry more in a journal.
 use Rattle.std.proofs.Common.{◌≡◌, inl, inr, ℕ, Bool, true, false, cond, List, [], ◌∷◌, ◌++◌, map, Option, Some, None, refl, sym, ap, subst, ◌∙◌, append_assoc, append-nil}
 use Rattle.std.specs.Prelude.{IfSome, is_some, ◌||◌}
-use Rattle.pid_file.proofs.Cuts.{ended_more, map_append, open_more}
-use Rattle.pid_file.specs.Lines.{drop_cr}
+use Rattle.pid_file.proofs.Cuts.{ended_more, lines_split, map_append, open_more}
+use Rattle.pid_file.specs.Lines.{drop_cr, lines_of}
 use Rattle.pid_file.specs.WholeLines.{ended_pieces, open_part, whole_lines}
 use Rattle.pid_moderation.specs.History.{Asked, History}
 use Rattle.pid_moderation.specs.Judgement.{after, after_all}
@@ -36,11 +36,11 @@ whole_both text more whole =
 
 -- what is noted asks what its line asks
 pub noted_asks : (text : List ℕ) (k : Counts) (line : List ℕ) → IsNote text k line → commands_of_lines (whole_lines text) ≡ command_of (ask_of line) ++ []
-noted_asks text k line is = ap commands_of_lines is.lines ∙ (λ i. idle_says_none is.comment (said_is_idle is.comment k is.says) i ++ (command_of (ask_of line) ++ []))
+noted_asks text k line is = ap commands_of_lines is.2 ∙ (λ i. idle_says_none is.1 (said_is_idle is.1 k is.3) i ++ (command_of (ask_of line) ++ []))
 
 -- an entry asks its command alone
 pub entry_asks : (text : List ℕ) (k : Counts) (c : Asked) → IsEntry text k c → commands_of_lines (whole_lines text) ≡ c ∷ []
-entry_asks text k c is = noted_asks text k is.line is.note ∙ (λ i. is.asks i ++ [])
+entry_asks text k c is = noted_asks text k is.0 is.1 ∙ (λ i. is.2 i ++ [])
 
 -- a mark asks nothing
 pub mark_asks : (text : List ℕ) (k : Counts) → IsMark text k → commands_of_lines (whole_lines text) ≡ []
@@ -68,17 +68,17 @@ not_idle line c asks idle = let none : command_of (ask_of line) ≡ [] = idle_sa
 -- what is noted is true at its place, if the line itself says no counts
 noted_true : (h : History) (noted : Bool) (text line : List ℕ) → IsNote text (counts_held h) line → ((x : Counts) → counts_said line ≡ Some x → ⊥) → AreTrue h noted (whole_lines text)
 noted_true h noted text line is never =
-    let idle : is_idle_line is.comment ≡ true = said_is_idle is.comment (counts_held h) is.says in
-    let g : History = after_line h is.comment in
-    subst (λ (ls : List (List ℕ)). AreTrue h noted ls) (sym is.lines) (
-      if_said (counts_said is.comment) (counts_held h) is.says,
+    let idle : is_idle_line is.1 ≡ true = said_is_idle is.1 (counts_held h) is.3 in
+    let g : History = after_line h is.1 in
+    subst (λ (ls : List (List ℕ)). AreTrue h noted ls) (sym is.2) (
+      if_said (counts_said is.1) (counts_held h) is.3,
       (λ off. absurd (let no : ⊥ = cc in no)),
-      (if_none (counts_said line) (counts_held g) never, (λ off. λ i. cond (idle i) (is_some (is.says i) || noted) false), tt),
+      (if_none (counts_said line) (counts_held g) never, (λ off. λ i. cond (idle i) (is_some (is.3 i) || noted) false), tt),
     )
 
 -- an entry is true at its place
 pub entry_true : (h : History) (noted : Bool) (text : List ℕ) (c : Asked) → IsEntry text (counts_held h) c → AreTrue h noted (whole_lines text)
-entry_true h noted text c is = noted_true h noted text is.line is.note (λ x says. not_idle is.line c is.asks (said_is_idle is.line x says))
+entry_true h noted text c is = noted_true h noted text is.0 is.1 (λ x says. not_idle is.0 c is.2 (said_is_idle is.0 x says))
 
 pub empty_says_none : counts_said [] ≡ None
 unfolding counts_said
@@ -99,24 +99,36 @@ on_leads h next text (inr (inl none, same)) = ap (λ (l : List ℕ). after_all h
 on_leads h next text (inr (inr mark, same)) = ap (after_all h) (mark_asks text (counts_held h) mark) ∙ sym same
 
 on_whole : (h next : History) (text : List ℕ) → EntryLeads text h next → open_part text ≡ []
-on_whole h next text (inl (c, is, ends)) = is.note.whole
+on_whole h next text (inl (c, is, ends)) = is.1.0
 on_whole h next text (inr (inl none, same)) = ap open_part none
-on_whole h next text (inr (inr mark, same)) = mark.whole
+on_whole h next text (inr (inr mark, same)) = mark.0
+
+-- a text that is whole lines is them as a script
+pub all_whole : (text : List ℕ) → open_part text ≡ [] → lines_of text ≡ whole_lines text
+all_whole text whole = lines_split text ∙ ap (λ (o : List ℕ). whole_lines text ++ lines_of o) whole ∙ append-nil (whole_lines text)
+
+pub journal_from : (start h : History) (text : List ℕ) → open_part text ≡ [] → AreTrue start false (whole_lines text) → history_after start (whole_lines text) ≡ h → JournalLeads start text h
+journal_from start h text whole told leads =
+    let same = sym (all_whole text whole) in
+    (whole, subst (λ (ls : List (List ℕ)). AreTrue start false ls) same told, ap (history_after start) (sym same) ∙ leads)
+
+pub told_in : (start h : History) (text : List ℕ) → JournalLeads start text h → AreTrue start false (whole_lines text)
+told_in start h text is = subst (λ (ls : List (List ℕ)). AreTrue start false ls) (all_whole text is.0) is.1
+
+pub leads_in : (start h : History) (text : List ℕ) → JournalLeads start text h → history_after start (whole_lines text) ≡ h
+leads_in start h text is = ap (history_after start) (sym (all_whole text is.0)) ∙ is.2
 
 -- a journal leads on with what leads on
 longer : (start h next : History) (text more : List ℕ) → JournalLeads start text h → EntryLeads more h next → JournalLeads start (text ++ more) next
-longer start h next text more before on = record {
-  whole = open_more text more ∙ ap (λ (o : List ℕ). open_part (o ++ more)) before.whole ∙ on_whole h next more on;
-  told =
-      subst (λ (ls : List (List ℕ)). AreTrue start false ls) (sym (whole_both text more before.whole))
-      (true_both (whole_lines text) (whole_lines more) start false before.told (λ m. subst (λ (g : History). AreTrue g m (whole_lines more)) (sym before.leads) (on_true h next m more on)));
-  leads =
-      ap (history_after start) (whole_both text more before.whole)
-      ∙ ap (after_all start) (commands_both (whole_lines text) (whole_lines more))
-      ∙ after_both start (commands_of_lines (whole_lines text)) (commands_of_lines (whole_lines more))
-      ∙ ap (λ (g : History). after_all g (commands_of_lines (whole_lines more))) before.leads
-      ∙ on_leads h next more on;
-}
+longer start h next text more before on =
+    journal_from start next (text ++ more) (open_more text more ∙ ap (λ (o : List ℕ). open_part (o ++ more)) before.0 ∙ on_whole h next more on)
+    (subst (λ (ls : List (List ℕ)). AreTrue start false ls) (sym (whole_both text more before.0))
+    (true_both (whole_lines text) (whole_lines more) start false (told_in start h text before) (λ m. subst (λ (g : History). AreTrue g m (whole_lines more)) (sym (leads_in start h text before)) (on_true h next m more on))))
+    (ap (history_after start) (whole_both text more before.0)
+    ∙ ap (after_all start) (commands_both (whole_lines text) (whole_lines more))
+    ∙ after_both start (commands_of_lines (whole_lines text)) (commands_of_lines (whole_lines more))
+    ∙ ap (λ (g : History). after_all g (commands_of_lines (whole_lines more))) (leads_in start h text before)
+    ∙ on_leads h next more on)
 
 -- a journal with an entry more leads on to the history after its command
 pub appended : (start h : History) (text entry : List ℕ) (c : Asked) → JournalLeads start text h → IsEntry entry (counts_held h) c → JournalLeads start (text ++ entry) (after h c)

@@ -275,7 +275,7 @@ pub other_last : (names front rest : List ℕ) (last at name : ℕ) → (last ==
 other_last names front rest last at name off parts is same = differ last name off (last_same front rest last at (sym parts ∙ is) ∙ same)
 
 pub empty_leads : (h : History) → JournalLeads h [] h
-empty_leads h = record { whole = refl; told = tt; leads = refl }
+empty_leads h = (refl, tt, refl)
 
 module _ {R : Type 0} (registry : Ghosts R) where
   -- all segments were obeyed

@@ -61,10 +61,10 @@ lines_at_mark : (above rest : List ℕ) → whole_lines (above ++ 10 ∷ 10 ∷ 
 lines_at_mark above rest = ap (map drop_cr) (pieces_at above (10 ∷ rest)) ∙ map_append drop_cr (ended_pieces above) (open_part above ∷ [] ∷ ended_pieces rest)
 
 pub unmarked : (entry : List ℕ) (k : Counts) (c : Asked) → IsEntry entry k c → IsUnmarked entry
-unmarked entry k c is = let noted = is.note in record {
-  first = λ rest starts. let lines : [] ∷ map drop_cr (ended_pieces rest) ≡ noted.comment ∷ is.line ∷ [] = ap whole_lines (sym starts) ∙ noted.lines in let none : noted.comment ≡ [] = cc in says_something noted.comment k noted.says none;
+unmarked entry k c is = let noted = is.1 in record {
+  first = λ rest starts. let lines : [] ∷ map drop_cr (ended_pieces rest) ≡ noted.1 ∷ is.0 ∷ [] = ap whole_lines (sym starts) ∙ noted.2 in let none : noted.1 ≡ [] = cc in says_something noted.1 k noted.3 none;
   within = λ above rest has.
-      asks_something is.line c is.asks (no_more (map drop_cr (ended_pieces above)) (map drop_cr (ended_pieces rest)) (drop_cr (open_part above)) noted.comment is.line (sym (lines_at_mark above rest) ∙ ap whole_lines (sym has) ∙ noted.lines));
+      asks_something is.0 c is.2 (no_more (map drop_cr (ended_pieces above)) (map drop_cr (ended_pieces rest)) (drop_cr (open_part above)) noted.1 is.0 (sym (lines_at_mark above rest) ∙ ap whole_lines (sym has) ∙ noted.2));
 }
 
 entered : (above b text part gone entry rest : List ℕ) (count : ℕ) → IsUnmarked entry → entry ≡ part ++ gone → text ≡ above ++ b → 10 ∷ 10 ∷ rest ≡ b ++ part → length text ≡ count → length above + 2 ≤ count

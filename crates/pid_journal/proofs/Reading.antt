@@ -91,13 +91,13 @@ comment_asks line k says short = short_idle line (said_is_text line k says) (sai
 -- A COMMENT WITH A LINE
 
 joined : (comment line : List ℕ) (k : Counts) → ended_pieces comment ≡ [] → ended_pieces line ≡ [] → counts_said (drop_cr comment) ≡ Some k → length (drop_cr comment) ≤ 1000 → IsNote (comment ++ 10 ∷ (line ++ 10 ∷ [])) k (drop_cr line)
-joined comment line k one two says short = record {
-  whole = open_line comment (line ++ 10 ∷ []) one ∙ open_line line [] two;
-  comment = drop_cr comment;
-  lines = ap (map drop_cr) (ended_line comment (line ++ 10 ∷ []) one ∙ ap (λ (pieces : List (List ℕ)). comment ∷ pieces) (ended_line line [] two));
-  says = says;
-  idle = comment_asks (drop_cr comment) k says short;
-}
+joined comment line k one two says short = (
+  open_line comment (line ++ 10 ∷ []) one ∙ open_line line [] two,
+  drop_cr comment,
+  ap (map drop_cr) (ended_line comment (line ++ 10 ∷ []) one ∙ ap (λ (pieces : List (List ℕ)). comment ∷ pieces) (ended_line line [] two)),
+  says,
+  comment_asks (drop_cr comment) k says short,
+)
 
 pub reads : (entry comment rest line behind : List ℕ) (k : Counts) → entry ≡ comment ++ 10 ∷ rest → ended_pieces comment ≡ [] → rest ≡ line ++ 10 ∷ behind → ended_pieces line ≡ []
     → behind ≡ [] → counts_said (drop_cr comment) ≡ Some k → length (drop_cr comment) ≤ 1000 → IsNote entry k (drop_cr line)

@@ -16,6 +16,7 @@ use Rattle.pid_journal.specs.Steps.Faults.{IsRefused}
 use Rattle.pid_journal.specs.Steps.Places.{IsOpenEnd}
 use Rattle.pid_journal.specs.Steps.Segments.{LinesMayBeObeyed}
 use Rattle.pid_journal.specs.Steps.Notes.{counts_in}
+use Rattle.pid_journal.proofs.Appending.{journal_from}
 use Rattle.pid_journal.proofs.Places.{revision_counted, way_grows}
 
 pub open_joined : (front more : List ℕ) → open_part front ≡ [] → open_part more ≡ [] → open_part (front ++ more) ≡ []
@@ -37,11 +38,7 @@ lines_kept text rest end = ap whole_lines end.end.parts ∙ whole_same end.end.f
 pub journal_of : (start : History) (text rest : List ℕ) (end : IsOpenEnd text rest) → AreTrue start false (whole_lines text) → JournalLeads start end.end.front (history_after start (whole_lines text))
 journal_of start text rest end told =
     let same = lines_kept text rest end in
-    record {
-      whole = end.end.whole;
-      told = subst (λ (ls : List (List ℕ)). AreTrue start false ls) same told;
-      leads = ap (history_after start) (sym same);
-    }
+    journal_from start (history_after start (whole_lines text)) end.end.front end.end.whole (subst (λ (ls : List (List ℕ)). AreTrue start false ls) same told) (ap (history_after start) (sym same))
 
 pub if_ok : {X : Type 0} (result : Result X OpenFault) (P : Type 0) → P → IfOk result (λ x. P)
 if_ok (Ok x) P says = says

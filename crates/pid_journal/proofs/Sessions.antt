@@ -1,16 +1,16 @@
 -- What a stop leaves of a journal of segments.
-use Rattle.std.proofs.Common.{◌≡◌, inl, inr, ℕ, false, List, [], ◌∷◌, ◌++◌, take, drop, take-append-drop, sym, ap, subst, ◌∙◌, append_assoc, append-nil}
+use Rattle.std.proofs.Common.{◌≡◌, inl, inr, ℕ, false, List, [], ◌∷◌, ◌++◌, sym, ap, subst, ◌∙◌, append_assoc, append-nil}
 use Rattle.pid_file.specs.WholeLines.{whole_lines}
 use Rattle.pid_moderation.specs.History.{History}
 use Rattle.pid_moderation.specs.Views.{revision_of}
 use Rattle.pid_script.specs.Replies.{history_after}
-use Rattle.pid_journal.specs.Journals.{AreTrue, AreSegments, IsOnSegments, IsPassed, lines_in}
+use Rattle.pid_journal.specs.Journals.{AreTrue, AreSegments, lines_in}
 use Rattle.pid_journal.specs.Laws.{StopsLeaveTheWay}
-use Rattle.pid_journal.specs.Steps.Ways.{IsAlong, IsInSegments, IsOnWay}
-use Rattle.pid_journal.proofs.Along.{along_segments, on_segments}
+use Rattle.pid_journal.specs.Steps.Ways.{IsInSegments, IsOnWay}
+use Rattle.pid_journal.proofs.Along.{on_segments}
 use Rattle.pid_journal.proofs.InTurn.{lines_both}
 use Rattle.pid_journal.proofs.Appending.{history_both}
-use Rattle.pid_journal.proofs.Scripts.{doubts}
+use Rattle.pid_journal.proofs.Scripts.{doubts, either}
 
 -- one segment more
 segments_more : (text : ℕ → List ℕ) (h : History) (front : List ℕ) (name : ℕ) → AreSegments text h front → revision_of (history_after h (lines_in text front)) ≡ name → AreTrue (history_after h (lines_in text front)) false (whole_lines (text name)) → AreSegments text h (front ++ name ∷ [])
@@ -32,23 +32,18 @@ on_last start g text front name told way = record {
   so_far = history_both start (lines_in text front) way.before ∙ way.so_far;
 }
 
--- what is along the first lines
-on_more : (text : ℕ → List ℕ) (start g : History) (all : List ℕ) (before more : List (List ℕ)) → AreSegments text start all → IsPassed start before g → lines_in text all ≡ before ++ more → IsOnSegments text start all g
-on_more text start g all before more told (n, so_far) grows =
-    let along : IsAlong start (lines_in text all) g = record {
-      before = take n before;
-      later = drop n before ++ more;
-      parts = grows ∙ ap (λ (ls : List (List ℕ)). ls ++ more) (sym (take-append-drop n before)) ∙ append_assoc (take n before) (drop n before) more;
-      so_far = so_far;
-    } in
-    along_segments text start g all told along
-
 pub stops : StopsLeaveTheWay
-stops start h next g text front name told is doubt on =
-    let ways = doubts (history_after start (lines_in text front)) h next (text name) doubt in
+stops start h next text front name told is doubt =
+    let begin = history_after start (lines_in text front) in
+    let ways = doubts begin h next (text name) doubt in
     let all = segments_more text start front name told is ways.0.told in
-    elim on [
-      | inl same ↦ subst (IsOnSegments text start (front ++ name ∷ [])) (sym same) (on_segments text start h (front ++ name ∷ []) (on_last start h text front name all ways.0))
-      | inr (inl (none, same)) ↦ subst (IsOnSegments text start (front ++ name ∷ [])) (sym same) (on_segments text start next (front ++ name ∷ []) (on_last start next text front name all (ways.1 none)))
-      | inr (inr (before, more, way, grows)) ↦ on_more text start g (front ++ name ∷ []) before more all way grows
-    ]
+    let end : history_after start (lines_in text (front ++ name ∷ [])) ≡ history_after begin (whole_lines (text name)) =
+    ap (history_after start) (all_lines text front name) ∙ history_both start (lines_in text front) (whole_lines (text name)) in (
+      all,
+      (on_segments text start h (front ++ name ∷ []) (on_last start h text front name all ways.0)).1,
+      λ whole. end ∙ ways.1 whole,
+      elim (either begin h next (text name) doubt) [
+        | inl same ↦ inl (end ∙ same)
+        | inr one ↦ inr (end ∙ one)
+      ],
+    )

@@ -3,6 +3,7 @@
 use Rattle.std.specs.Prelude.{◌≡◌, ℕ, Bool, false, true, ◌||◌, ◌&&◌, ◌==◌, if◌then◌else◌, List, [], ◌∷◌, codes, take}
 use Rattle.std.specs.Prelude.{flat_map, slice_index, Option, Some, None, IfSome, is_some, option_and_then, option_map}
 use Rattle.std.specs.Str.{bytes_eq, is_utf8}
+use Rattle.pid_file.specs.Lines.{lines_of}
 use Rattle.pid_file.specs.WholeLines.{whole_lines, open_part}
 use Rattle.pid_form.specs.Fields.{Fields, value}
 use Rattle.pid_form.specs.FormFields.{fields_in}
@@ -47,26 +48,19 @@ AreTrue h noted (line ∷ lines) = IfSome (counts_said line) (λ counts. counts 
     × (is_idle_line line ≡ false → noted ≡ true) × AreTrue (after_all h (command_of (ask_of line)))
     (if is_idle_line line then is_some (counts_said line) || noted else false) lines
 
--- The text is whole lines, their comments are true, and as a script they lead from the one history
--- to the other.
-pub record JournalLeads (start : History) (text : List ℕ) (h : History) : Type 0 where
-  pub whole : open_part text ≡ []
-  pub told : AreTrue start false (whole_lines text)
-  pub leads : history_after start (whole_lines text) ≡ h
+-- The text is whole lines, their comments are true, and as a script it leads from the one history to the other.
+abbrev pub JournalLeads : History → List ℕ → History → Type 0
+JournalLeads start text h = (open_part text ≡ []) × AreTrue start false (lines_of text)
+    × (history_after start (lines_of text) ≡ h)
 
 -- The text is a comment that says these counts, and a line below it: of a mark it is empty.
-pub record IsNote (text : List ℕ) (counts : Counts) (line : List ℕ) : Type 0 where
-  pub whole : open_part text ≡ []
-  pub comment : List ℕ
-  pub lines : whole_lines text ≡ comment ∷ line ∷ []
-  pub says : counts_said comment ≡ Some counts
-  pub idle : ask_of comment ≡ AsksNothing
+abbrev pub IsNote : List ℕ → Counts → (line : List ℕ) → Type 0
+IsNote text counts line = (open_part text ≡ []) × (comment : List ℕ) × (whole_lines text ≡ comment ∷ line ∷ [])
+    × (counts_said comment ≡ Some counts) × (ask_of comment ≡ AsksNothing)
 
 -- An entry has the line of a command there.
-pub record IsEntry (text : List ℕ) (counts : Counts) (c : Asked) : Type 0 where
-  pub line : List ℕ
-  pub note : IsNote text counts line
-  pub asks : command_of (ask_of line) ≡ c ∷ []
+abbrev pub IsEntry : List ℕ → Counts → Asked → Type 0
+IsEntry text counts c = (line : List ℕ) × IsNote text counts line × (command_of (ask_of line) ≡ c ∷ [])
 
 -- SEGMENTS
 
