@@ -5,7 +5,7 @@ use Rattle.pid_moderation.specs.History.{History}
 use Rattle.pid_script.specs.Replies.{history_after}
 use Rattle.pid_service_laws.specs.Registries.{Showing}
 use Rattle.pid_journal.specs.Openings.{StopsAtOne}
-use Rattle.pid_journal.specs.Journals.{AreSegments, IsOnSegments, lines_in}
+use Rattle.pid_journal.specs.Journals.{AreSegments, IsPassed, lines_in}
 use Rattle.pid_journal.specs.Steps.Following.{FaultsAtLine}
 use Rattle.pid_journal.specs.Steps.Places.{IsAt}
 use Rattle.pid_journal.specs.Steps.Ways.{IsAlong, IsInSegments, IsOnWay}
@@ -20,22 +20,19 @@ way_along h g noted lines way = record { before = way.before; later = way.later;
 pub segments_along : (text : ℕ → List ℕ) (h g : History) (names : List ℕ) → IsInSegments text h names g → IsAlong h (lines_in text names) g
 segments_along text h g names way = record { before = way.before; later = way.later; parts = way.parts; so_far = way.so_far }
 
-pub along_segments : (text : ℕ → List ℕ) (h g : History) (names : List ℕ) → AreSegments text h names → IsAlong h (lines_in text names) g → IsOnSegments text h names g
-along_segments text h g names told along =
+pub passed_along : (h g : History) (lines : List (List ℕ)) → IsAlong h lines g → IsPassed h lines g
+passed_along h g lines along =
     let count = length along.before in
-    let first : take count (lines_in text names) ≡ along.before = ap (λ (ls : List (List ℕ)). take count ls) along.parts ∙ take_at along.before along.later count refl in
-    (told, (count, ap (history_after h) first ∙ along.so_far))
+    let first : take count lines ≡ along.before = ap (λ (ls : List (List ℕ)). take count ls) along.parts ∙ take_at along.before along.later count refl in
+    (count, ap (history_after h) first ∙ along.so_far)
 
-pub on_segments : (text : ℕ → List ℕ) (h g : History) (names : List ℕ) → IsInSegments text h names g → IsOnSegments text h names g
-on_segments text h g names way = along_segments text h g names way.told (segments_along text h g names way)
-
-pub in_segments : (text : ℕ → List ℕ) (h g : History) (names : List ℕ) → IsOnSegments text h names g → IsInSegments text h names g
-in_segments text h g names on = record {
-  told = on.0;
-  before = take on.1.0 (lines_in text names);
-  later = drop on.1.0 (lines_in text names);
-  parts = sym (take-append-drop on.1.0 (lines_in text names));
-  so_far = on.1.1;
+pub in_segments : (text : ℕ → List ℕ) (h g : History) (names : List ℕ) → AreSegments text h names → IsPassed h (lines_in text names) g → IsInSegments text h names g
+in_segments text h g names told passed = record {
+  told = told;
+  before = take passed.0 (lines_in text names);
+  later = drop passed.0 (lines_in text names);
+  parts = sym (take-append-drop passed.0 (lines_in text names));
+  so_far = passed.1;
 }
 
 -- the lines are some in the middle of all

@@ -1,6 +1,6 @@
 -- An entry more in a journal.
 use Rattle.std.proofs.Common.{◌≡◌, inl, inr, ℕ, Bool, true, false, cond, List, [], ◌∷◌, ◌++◌, map, Option, Some, None, refl, sym, ap, subst, ◌∙◌, append_assoc, append-nil}
-use Rattle.std.specs.Prelude.{IfSome, is_some, ◌||◌}
+use Rattle.std.specs.Prelude.{IfSome, IsSomeAnd, is_some, ◌||◌}
 use Rattle.pid_file.proofs.Cuts.{ended_more, lines_split, map_append, open_more}
 use Rattle.pid_file.specs.Lines.{drop_cr, lines_of}
 use Rattle.pid_file.specs.WholeLines.{ended_pieces, open_part, whole_lines}
@@ -137,3 +137,12 @@ appended start h text entry c before is = longer start h (after h c) text entry 
 -- a journal with a mark more leads to the same history
 pub marked : (start h : History) (text mark : List ℕ) → JournalLeads start text h → IsMark mark (counts_held h) → JournalLeads start (text ++ mark) h
 marked start h text mark before is = longer start h h text mark before (inr (inr is, refl))
+
+-- THE JOURNAL OF A REGISTRY
+
+pub kept : (start h : History) (safe : Option (List ℕ)) → IsSomeAnd safe (λ text. JournalLeads start text h) → (text : List ℕ) × (safe ≡ Some text) × JournalLeads start text h
+kept start h None leads = absurd leads
+kept start h (Some text) leads = (text, refl, leads)
+
+pub is_kept : (start h : History) (safe : Option (List ℕ)) (text : List ℕ) → safe ≡ Some text → JournalLeads start text h → IsSomeAnd safe (λ t. JournalLeads start t h)
+is_kept start h safe text is leads = subst (λ (o : Option (List ℕ)). IsSomeAnd o (λ t. JournalLeads start t h)) (sym is) leads

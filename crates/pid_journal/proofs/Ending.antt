@@ -10,22 +10,23 @@ use Rattle.pid_script.specs.Replies.{history_after}
 use Rattle.pid_service_laws.specs.declared.registry_calls.RegistryCalls.{Ghosts}
 use Rattle.pid_journal.specs.declared.file.JournalFile as files
 use Rattle.pid_journal.specs.declared.folder.JournalFolder as folders
+use Rattle.pid_journal.specs.declared.journaled.Journaled.{Journaled}
+use Rattle.pid_journal.specs.Openings.{BeginsNew}
 use Rattle.pid_journal.specs.declared.open_fault.OpenFault.{OpenFault}
 use Rattle.pid_journal.specs.declared.segment_text.SegmentText.{SegmentText}
 use Rattle.pid_journal.specs.Doubts.{LeavesPart}
 use Rattle.pid_journal.specs.Journals.{AreTrue, JournalLeads, lines_in}
-use Rattle.pid_journal.specs.Openings.{IsNewName}
 use Rattle.pid_journal.specs.Steps.Faults.{IsRefused}
-use Rattle.pid_journal.specs.Pairs.{AddsMark}
+use Rattle.pid_journal.specs.Pairs.{AddsMark, PairShows}
 use Rattle.pid_journal.specs.Steps.Notes.{IsMark}
 use Rattle.pid_journal.specs.Steps.Parts.{MayBeMarked}
 use Rattle.pid_journal.specs.Steps.Places.{IsOpenEnd}
 use Rattle.pid_journal.specs.Steps.Reads.{EndsAtLast, EndsAt, held_of}
 use Rattle.pid_journal.specs.Steps.Reopening.{Begins, BeginsIn, BeginsSegment, CutsTorn, EndsIn, EndsMarked, FindsGap, FindsNext, GoesOnIn, HandsOn, Reopens}
-use Rattle.pid_journal.specs.Steps.Segments.{AsksOn, EndsLast, FaultsAlong, FollowsAll, HandsOut, HasComeToLast, IsSameFolder, KeepsLines, KeepsShown, LinesMayBeObeyed, MayBegin, ShowsWithin}
+use Rattle.pid_journal.specs.Steps.Segments.{AsksOn, EndsLast, FaultsAlong, FollowsAll, HandsOut, HasComeToLast, IsSameFolder, KeepsLines, KeepsShown, LinesMayBeObeyed, ShowsWithin}
 use Rattle.pid_journal.proofs.Along.{stops_after}
-use Rattle.pid_journal.proofs.Appending.{marked}
-use Rattle.pid_journal.proofs.InTurn.{both_kept, differ, empty_leads, ends_shown, if_known, none_new, one_segment_more}
+use Rattle.pid_journal.proofs.Appending.{is_kept, marked}
+use Rattle.pid_journal.proofs.InTurn.{both_kept, differ, empty_leads, ends_shown, if_known, one_segment_more}
 use Rattle.pid_journal.proofs.Reading.{nat_same}
 use Rattle.pid_journal.proofs.Resuming.{journal_of, lines_kept, refused_moves}
 
@@ -118,27 +119,25 @@ module _ {R F J : Type 0} (registry : Ghosts R) (folder : folders.Ghosts F J) (f
       let b = begins names (same ∙ known) in
       record { safe = b.safe; name = b.name; named = b.named; empty = b.empty; told = λ clean h shown. b.told clean h (kept (honest clean) h shown) }
 
-  if_begun : (old mid new : R) (f m g : F) (last : Option SegmentText) (names : List ℕ) (result : Result J OpenFault) → (registry.showing.is_clean new → registry.showing.is_clean mid) → KeepsShown registry.showing old mid → folder.names m ≡ folder.names f
-      → (last ≡ None) ⊎ MayBegin registry.showing old mid names → IfOk result (Begins registry folder file mid new m g)
-      → IfOk result (λ k. ((t : SegmentText) × (last ≡ Some t) × GoesOnIn registry folder file old new f g t k) ⊎ (Begins registry folder file old new f g k × ((last ≡ None) ⊎ MayBegin registry.showing old new names)))
-  if_begun old mid new f m g last names (Ok k) honest kept same (inl none) begun = inr (begins_from old mid new f m g k honest kept same begun, inl none)
-  if_begun old mid new f m g last names (Ok k) honest kept same (inr may) begun = inr (begins_from old mid new f m g k honest kept same begun, inr (λ clean h shown. may (honest clean) h shown))
-  if_begun old mid new f m g last names (Err fault) honest kept same why begun = tt
+  if_begun : (old mid new : R) (f m g : F) (last : Option SegmentText) (result : Result J OpenFault) → (registry.showing.is_clean new → registry.showing.is_clean mid) → KeepsShown registry.showing old mid → folder.names m ≡ folder.names f → IfOk result (Begins registry folder file mid new m g)
+      → IfOk result (λ k. ((t : SegmentText) × (last ≡ Some t) × GoesOnIn registry folder file old new f g t k) ⊎ Begins registry folder file old new f g k)
+  if_begun old mid new f m g last (Ok k) honest kept same begun = inr (begins_from old mid new f m g k honest kept same begun)
+  if_begun old mid new f m g last (Err fault) honest kept same begun = tt
 
   -- there is none
-  pub next_first : (old new : R) (f g : F) (last : Option SegmentText) (names : List ℕ) (result : Result J OpenFault) → last ≡ None → BeginsSegment registry folder file old new f g result → FindsNext registry folder file old new f g last names result
-  next_first old new f g last names result none begins = record {
+  pub next_first : (old new : R) (f g : F) (last : Option SegmentText) (result : Result J OpenFault) → last ≡ None → BeginsSegment registry folder file old new f g result → FindsNext registry folder file old new f g last result
+  next_first old new f g last result none begins = record {
     honest = begins.honest;
     kept = begins.kept;
     keeps = λ ends. keeps_same folder f g begins.same;
     hands = begins.hands;
-    goes = if_begun old old new f f g last names result begins.honest (λ clean h shown. shown) refl (inl none) begins.begun;
+    goes = if_begun old old new f f g last result begins.honest (λ clean h shown. shown) refl begins.begun;
     fault = begins.fault;
   }
 
   -- it could not be cut
-  pub next_uncut : (r : R) (f g : F) (t : SegmentText) (last : Option SegmentText) (names : List ℕ) (fault : OpenFault) → last ≡ Some t → CutsTorn folder f g t (Err fault) → FindsNext registry folder file r r f g last names (Err fault)
-  next_uncut r f g t last names fault is cuts = record {
+  pub next_uncut : (r : R) (f g : F) (t : SegmentText) (last : Option SegmentText) (fault : OpenFault) → last ≡ Some t → CutsTorn folder f g t (Err fault) → FindsNext registry folder file r r f g last (Err fault)
+  next_uncut r f g t last fault is cuts = record {
     honest = λ clean. clean;
     kept = λ clean h shown. shown;
     keeps = λ ends. cuts.keeps (ends t is);
@@ -148,8 +147,8 @@ module _ {R F J : Type 0} (registry : Ghosts R) (folder : folders.Ghosts F J) (f
   }
 
   -- the registry did not say where it is
-  pub next_unasked : (old new : R) (f g : F) (t : SegmentText) (last : Option SegmentText) (names : List ℕ) (fault : OpenFault) → last ≡ Some t → CutsTorn folder f g t (Ok tt) → AsksOn registry.showing old new names (Err fault) → FindsNext registry folder file old new f g last names (Err fault)
-  next_unasked old new f g t last names fault is cuts asks = record {
+  pub next_unasked : (old new : R) (f g : F) (t : SegmentText) (last : Option SegmentText) (fault : OpenFault) → last ≡ Some t → CutsTorn folder f g t (Ok tt) → AsksOn registry.showing old new (Err fault) → FindsNext registry folder file old new f g last (Err fault)
+  next_unasked old new f g t last fault is cuts asks = record {
     honest = asks.honest;
     kept = asks.kept;
     keeps = λ ends. cuts.keeps (ends t is);
@@ -159,14 +158,14 @@ module _ {R F J : Type 0} (registry : Ghosts R) (folder : folders.Ghosts F J) (f
   }
 
   -- a new one begins after it
-  pub next_begun : (old mid new : R) (f m g : F) (t : SegmentText) (last : Option SegmentText) (names : List ℕ) (result : Result J OpenFault) → last ≡ Some t → CutsTorn folder f m t (Ok tt) → AsksOn registry.showing old mid names (Ok false) → BeginsSegment registry folder file mid new m g result
-      → FindsNext registry folder file old new f g last names result
-  next_begun old mid new f m g t last names result is cuts asks begins = record {
+  pub next_begun : (old mid new : R) (f m g : F) (t : SegmentText) (last : Option SegmentText) (result : Result J OpenFault) → last ≡ Some t → CutsTorn folder f m t (Ok tt) → AsksOn registry.showing old mid (Ok false) → BeginsSegment registry folder file mid new m g result
+      → FindsNext registry folder file old new f g last result
+  next_begun old mid new f m g t last result is cuts asks begins = record {
     honest = λ clean. asks.honest (begins.honest clean);
     kept = both_kept registry.showing old mid new begins.honest asks.kept begins.kept;
     keeps = λ ends. keeps_then folder f m g cuts.same (cuts.keeps (ends t is)) (keeps_same folder m g begins.same);
     hands = hands_then folder f m g result cuts.quiet begins.hands;
-    goes = if_begun old mid new f m g last names result begins.honest asks.kept cuts.same (inr (asks.ends refl)) begins.begun;
+    goes = if_begun old mid new f m g last result begins.honest asks.kept cuts.same begins.begun;
     fault = begins.fault;
   }
 
@@ -176,10 +175,10 @@ module _ {R F J : Type 0} (registry : Ghosts R) (folder : folders.Ghosts F J) (f
     | inr (mark, counts, one, more, told) ↦ inr (mark, counts, one, more, λ clean h shown. told clean h (kept (honest clean) h shown))
   ]
 
-  if_reopened : (old mid new : R) (f m g : F) (t : SegmentText) (last : Option SegmentText) (names : List ℕ) (result : Result J OpenFault) → last ≡ Some t → (registry.showing.is_clean new → registry.showing.is_clean mid) → KeepsShown registry.showing old mid → CutsTorn folder f m t (Ok tt) → IsSameFolder folder m g
+  if_reopened : (old mid new : R) (f m g : F) (t : SegmentText) (last : Option SegmentText) (result : Result J OpenFault) → last ≡ Some t → (registry.showing.is_clean new → registry.showing.is_clean mid) → KeepsShown registry.showing old mid → CutsTorn folder f m t (Ok tt) → IsSameFolder folder m g
       → IfOk result (EndsMarked registry.showing folder file mid new m t)
-      → IfOk result (λ k. ((t : SegmentText) × (last ≡ Some t) × GoesOnIn registry folder file old new f g t k) ⊎ (Begins registry folder file old new f g k × ((last ≡ None) ⊎ MayBegin registry.showing old new names)))
-  if_reopened old mid new f m g t last names (Ok k) is honest kept cuts same ends = inl (
+      → IfOk result (λ k. ((t : SegmentText) × (last ≡ Some t) × GoesOnIn registry folder file old new f g t k) ⊎ Begins registry folder file old new f g k)
+  if_reopened old mid new f m g t last (Ok k) is honest kept cuts same ends = inl (
     t,
     is,
     record {
@@ -189,17 +188,17 @@ module _ {R F J : Type 0} (registry : Ghosts R) (folder : folders.Ghosts F J) (f
           (subst (λ (text : ℕ → List ℕ). MayBeMarked registry.showing mid new (Some (text t.begin)) (file.safe k)) (sym same.1) (ends names (sym same.0 ∙ known)));
     },
   )
-  if_reopened old mid new f m g t last names (Err fault) is honest kept cuts same ends = tt
+  if_reopened old mid new f m g t last (Err fault) is honest kept cuts same ends = tt
 
   -- it goes on
-  pub next_reopened : (old mid new : R) (f m g : F) (t : SegmentText) (last : Option SegmentText) (names : List ℕ) (result : Result J OpenFault) → last ≡ Some t → CutsTorn folder f m t (Ok tt) → AsksOn registry.showing old mid names (Ok true)
-      → Reopens registry.showing folder file mid new m g t result → FindsNext registry folder file old new f g last names result
-  next_reopened old mid new f m g t last names result is cuts asks opens = record {
+  pub next_reopened : (old mid new : R) (f m g : F) (t : SegmentText) (last : Option SegmentText) (result : Result J OpenFault) → last ≡ Some t → CutsTorn folder f m t (Ok tt) → AsksOn registry.showing old mid (Ok true)
+      → Reopens registry.showing folder file mid new m g t result → FindsNext registry folder file old new f g last result
+  next_reopened old mid new f m g t last result is cuts asks opens = record {
     honest = λ clean. asks.honest (opens.honest clean);
     kept = both_kept registry.showing old mid new opens.honest asks.kept opens.kept;
     keeps = λ ends. keeps_then folder f m g cuts.same (cuts.keeps (ends t is)) (keeps_same folder m g opens.same.1);
     hands = hands_then folder f m g result cuts.quiet opens.hands;
-    goes = if_reopened old mid new f m g t last names result is opens.honest asks.kept cuts opens.same opens.marked;
+    goes = if_reopened old mid new f m g t last result is opens.honest asks.kept cuts opens.same opens.marked;
     fault = opens.fault;
   }
 
@@ -255,14 +254,14 @@ module _ {R F J : Type 0} (registry : Ghosts R) (folder : folders.Ghosts F J) (f
       }
 
   in_new : (mid new : R) (z : F) (text : ℕ → List ℕ) (start : History) (names : List ℕ) (k : J) (g : F) → BeginsIn registry folder file mid new g z k names → registry.showing.is_clean new → KeepsShown registry.showing mid new → registry.showing.shows mid (history_after start (lines_in text names))
-      → IsNewName names (revision_of (history_after start (lines_in text names))) → EndsIn registry folder file text start names (folder.names z) new k
-  in_new mid new z text start names k g begins clean kept shown is_new =
+      → EndsIn registry folder file text start names (folder.names z) new k
+  in_new mid new z text start names k g begins clean kept shown =
       let all = history_after start (lines_in text names) in
       record {
         front = names;
         name = begins.name;
         named = begins.named;
-        last = inl (refl, begins.told clean all shown, is_new);
+        last = inl (refl, begins.told clean all shown);
         shown = kept clean all shown;
         kept = [];
         safe = begins.safe;
@@ -270,25 +269,19 @@ module _ {R F J : Type 0} (registry : Ghosts R) (folder : folders.Ghosts F J) (f
       }
 
   -- a journal that goes on after the last segment
-  pub found : (old mid new : R) (f g z : F) (names begins : List ℕ) (last : Option SegmentText) (k : J) → begins ≡ names → FollowsAll registry folder old mid f names (Ok last) → EndsAtLast folder f names last → IsSameFolder folder f g
+  pub found : (old mid new : R) (f g z : F) (names : List ℕ) (last : Option SegmentText) (k : J) → FollowsAll registry folder old mid f names (Ok last) → EndsAtLast folder f names last → IsSameFolder folder f g
       → (registry.showing.is_clean new → registry.showing.is_clean mid) → KeepsShown registry.showing mid new
-      → ((t : SegmentText) × (last ≡ Some t) × GoesOnIn registry folder file mid new g z t k) ⊎ (Begins registry folder file mid new g z k × ((last ≡ None) ⊎ MayBegin registry.showing mid new begins))
+      → ((t : SegmentText) × (last ≡ Some t) × GoesOnIn registry folder file mid new g z t k) ⊎ Begins registry folder file mid new g z k
       → registry.showing.is_clean new → folder.names f ≡ Some names → (start : History) → IsMarked start → ShowsWithin registry.showing (folder.text_in f) start names old → EndsIn registry folder file (folder.text_in f) start names (folder.names z) new k
-  found old mid new f g z names begins last k read follows ends same honest kept (inl (t, is, goes)) clean known start marked shows =
+  found old mid new f g z names last k follows ends same honest kept (inl (t, is, goes)) clean known start marked shows =
       let there = subst (λ (l : Option SegmentText). EndsLast registry (folder.text_in f) start names mid l) is (follows (honest clean) known start marked shows) in
       let end = (subst (λ (l : Option SegmentText). EndsAtLast folder f names l) is ends).2 in
       in_last mid new g z (folder.text_in f) start names t k (same.0 ∙ known) same.1
       (λ all has. subst (λ (text : ℕ → List ℕ). IsOpenEnd (text t.begin) (held_of t)) (sym same.1) (end all (sym same.0 ∙ has)))
       there goes clean (honest clean) kept
-  found old mid new f g z names begins last k read follows ends same honest kept (inr (says, why)) clean known start marked shows =
+  found old mid new f g z names last k follows ends same honest kept (inr says) clean known start marked shows =
       let there = follows (honest clean) known start marked shows in
-      let all = history_after start (lines_in (folder.text_in f) names) in
-      let shown = ends_shown registry (folder.text_in f) start names mid last there in
-      in_new mid new z (folder.text_in f) start names k g (says names (same.0 ∙ known)) clean kept shown
-      (elim why [
-        | inl none ↦ none_new names _ (subst (λ (l : Option SegmentText). EndsLast registry (folder.text_in f) start names mid l) none there).0
-        | inr may ↦ subst (λ (ns : List ℕ). IsNewName ns (revision_of all)) read (may clean all shown)
-      ])
+      in_new mid new z (folder.text_in f) start names k g (says names (same.0 ∙ known)) clean kept (ends_shown registry (folder.text_in f) start names mid last there)
 
   -- a fault after the last segment
   pub fault_found : (old mid new : R) (f : F) (names : List ℕ) (last : Option SegmentText) (fault : OpenFault) → IsRefused fault → (registry.showing.is_clean new → registry.showing.is_clean mid) → KeepsShown registry.showing mid new → FollowsAll registry folder old mid f names (Ok last)
@@ -307,12 +300,12 @@ module _ {R F J : Type 0} (registry : Ghosts R) (folder : folders.Ghosts F J) (f
   pub hands_new : (mid new : R) (f g z : F) (k : J) → folder.names g ≡ folder.names f → Begins registry folder file mid new g z k → (names : List ℕ) → folder.names f ≡ Some names → HandsOn registry folder file z k
   hands_new mid new f g z k same begins names known = let b = begins names (same ∙ known) in (names, b.name, b.named, ([], b.safe ∙ ap (λ (l : List ℕ). Some (l ++ [])) (sym b.empty), inl refl))
 
-  pub hands_on : (mid new : R) (f g z : F) (names begins : List ℕ) (last : Option SegmentText) (k : J) → EndsAtLast folder f names last → folder.names g ≡ folder.names f
-      → ((t : SegmentText) × (last ≡ Some t) × GoesOnIn registry folder file mid new g z t k) ⊎ (Begins registry folder file mid new g z k × ((last ≡ None) ⊎ MayBegin registry.showing mid new begins)) → folder.names f ≡ Some names → HandsOn registry folder file z k
-  hands_on mid new f g z names begins last k ends same (inl (t, is, goes)) known =
+  pub hands_on : (mid new : R) (f g z : F) (names : List ℕ) (last : Option SegmentText) (k : J) → EndsAtLast folder f names last → folder.names g ≡ folder.names f
+      → ((t : SegmentText) × (last ≡ Some t) × GoesOnIn registry folder file mid new g z t k) ⊎ Begins registry folder file mid new g z k → folder.names f ≡ Some names → HandsOn registry folder file z k
+  hands_on mid new f g z names last k ends same (inl (t, is, goes)) known =
       let all = subst (λ (l : Option SegmentText). EndsAtLast folder f names l) is ends in
       (all.0, t.begin, goes.same ∙ same ∙ known ∙ ap (λ (ns : List ℕ). Some ns) all.1, adds_mark mid new (folder.text_in z t.begin) (file.safe k) (goes.marked names (goes.same ∙ same ∙ known)))
-  hands_on mid new f g z names begins last k ends same (inr (says, why)) known = hands_new mid new f g z k same says names known
+  hands_on mid new f g z names last k ends same (inr says) known = hands_new mid new f g z k same says names known
 
 module _ {F J : Type 0} (folder : folders.Ghosts F J) where
   -- what was read of a folder that stays
@@ -328,27 +321,16 @@ pub and_same : {P Q S : Type 0} → S → P ⊎ Q → P ⊎ (Q × S)
 and_same same (inl may) = inl may
 and_same same (inr quiet) = inr (quiet, same)
 
--- WHERE IT IS SAID
+-- WHERE IT GOES ON
 
-front_same : (xs ys : List ℕ) (x y : ℕ) → xs ++ x ∷ [] ≡ ys ++ y ∷ [] → xs ≡ ys
-front_same [] [] x y is = refl
-front_same [] (b ∷ []) x y is = let no : ⊥ = cc in absurd no
-front_same [] (b ∷ d ∷ ys) x y is = let no : ⊥ = cc in absurd no
-front_same (a ∷ []) [] x y is = let no : ⊥ = cc in absurd no
-front_same (a ∷ d ∷ xs) [] x y is = let no : ⊥ = cc in absurd no
-front_same (a ∷ xs) (b ∷ ys) x y is =
-    let first : a ≡ b = cc in
-    let rest : xs ++ x ∷ [] ≡ ys ++ y ∷ [] = cc in
-    λ i. first i ∷ front_same xs ys x y rest i
-
-module _ {R F J : Type 0} (registry : Ghosts R) (folder : folders.Ghosts F J) (file : files.Ghosts J) (text : ℕ → List ℕ) (start : History) (names : List ℕ) (after : Option (List ℕ)) (new : R) (k : J) (ends : EndsIn registry folder file text start names after new k) where
-  pub last_of : (after ≡ Some names) ⊎ (IsNewName names (revision_of (history_after start (lines_in text names))) × (after ≡ Some (names ++ revision_of (history_after start (lines_in text names)) ∷ [])))
-  last_of = elim ends.last [
-    | inl begins ↦ inr (begins.2, ends.named ∙ (λ i. Some (sym begins.0 i ++ begins.1 i ∷ [])))
-    | inr same ↦ inl same
-  ]
-
-  pub leads_from : (front : List ℕ) (name : ℕ) → after ≡ Some (front ++ name ∷ []) → JournalLeads (history_after start (lines_in text front)) ends.kept (history_after start (lines_in text names))
-  leads_from front name is =
-      let same : ends.front ≡ front = front_same ends.front front ends.name name (some_same _ _ (sym ends.named ∙ is)) in
-      subst (λ (ns : List ℕ). JournalLeads (history_after start (lines_in text ns)) ends.kept (history_after start (lines_in text names))) same ends.leads
+module _ {R F J : Type 0} (registry : Ghosts R) (folder : folders.Ghosts F J) (file : files.Ghosts J) where
+  pub goes_on : (text : ℕ → List ℕ) (start : History) (names : List ℕ) (g : F) (p : Journaled R J) → p.failed ≡ false → EndsIn registry folder file text start names (folder.names g) p.registry p.journal
+      → BeginsNew registry folder file names g (history_after start (lines_in text names)) p
+      ⊎ ((folder.names g ≡ Some names) × (front : List ℕ) × (name : ℕ) × (names ≡ front ++ name ∷ []) × PairShows registry file (history_after start (lines_in text front)) p (history_after start (lines_in text names)))
+  goes_on text start names g p settled ends =
+      let all = history_after start (lines_in text names) in
+      let shows : PairShows registry file (history_after start (lines_in text ends.front)) p all = record { shown = ends.shown; settled = settled; leads = is_kept (history_after start (lines_in text ends.front)) all (file.safe p.journal) ends.kept ends.safe ends.leads } in
+      elim ends.last [
+        | inl (same, name) ↦ inl (ends.named ∙ (λ i. Some (sym same i ++ name i ∷ [])), subst (λ (ns : List ℕ). PairShows registry file (history_after start (lines_in text ns)) p all) (sym same) shows)
+        | inr still ↦ inr (still, ends.front, ends.name, some_same names (ends.front ++ ends.name ∷ []) (sym still ∙ ends.named), shows)
+      ]

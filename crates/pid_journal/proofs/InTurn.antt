@@ -17,11 +17,11 @@ use Rattle.pid_journal.specs.declared.open_fault.OpenFault.TheVariants.{Newer}
 use Rattle.pid_journal.specs.declared.segment_text.SegmentText.{SegmentText}
 use Rattle.pid_journal.specs.Journals.{AreTrue, JournalLeads, lines_in}
 use Rattle.pid_journal.specs.Steps.Ways.{IsAlong, IsInSegments, IsOnWay}
-use Rattle.pid_journal.specs.Openings.{IsNewName, FollowsInTurn, StopsAtOne}
+use Rattle.pid_journal.specs.Openings.{FollowsInTurn, StopsAtOne}
 use Rattle.pid_journal.specs.Steps.Faults.{IsRefused}
 use Rattle.pid_journal.specs.Steps.Places.{IsOpenEnd}
 use Rattle.pid_journal.specs.Steps.Reads.{EndsAtLast, EndsAt, held_of}
-use Rattle.pid_journal.specs.Steps.Segments.{EndsLast, FaultsAlong, FollowsAll, FollowsSegment, HasBegun, HasComeTo, HasComeToFirst, HasComeToLast, IsSameFolder, KeepsShown, LinesMayBeObeyed, PassesSegment, ShowsWithin, TellsRevision}
+use Rattle.pid_journal.specs.Steps.Segments.{EndsLast, FaultsAlong, FollowsAll, FollowsSegment, HasBegun, HasComeTo, HasComeToFirst, HasComeToLast, IsSameFolder, KeepsShown, LinesMayBeObeyed, PassesSegment, ShowsWithin, TellsRevision, IsNewName}
 use Rattle.pid_journal.proofs.Along.{along_all, segments_along, stops_as, stops_at}
 use Rattle.pid_journal.proofs.Appending.{history_both}
 use Rattle.pid_journal.proofs.Comparing.{first_two, last_same}
@@ -265,14 +265,14 @@ read_names (Some all) names items known said = let same : all ≡ names = cc in 
 
 -- of no names none is the last
 pub none_new : (names : List ℕ) (name : ℕ) → names ≡ [] → IsNewName names name
-none_new names name none [] last is = let both : [] ≡ last ∷ [] = sym none ∙ is in let no : ⊥ = cc in absurd no
-none_new names name none (x ∷ xs) last is = let both : [] ≡ x ∷ (xs ++ last ∷ []) = sym none ∙ is in let no : ⊥ = cc in absurd no
+none_new names name none [] is = let both : [] ≡ name ∷ [] = sym none ∙ is in let no : ⊥ = cc in absurd no
+none_new names name none (x ∷ xs) is = let both : [] ≡ x ∷ (xs ++ name ∷ []) = sym none ∙ is in let no : ⊥ = cc in absurd no
 
 pub differ : (a b : ℕ) → (a == b) ≡ false → a ≡ b → ⊥
 differ a b off is = grind (arith, nat_tests, off, is)
 
-pub other_last : (names front rest : List ℕ) (last at name : ℕ) → (last == name) ≡ false → names ≡ front ++ last ∷ [] → names ≡ rest ++ at ∷ [] → at ≡ name → ⊥
-other_last names front rest last at name off parts is same = differ last name off (last_same front rest last at (sym parts ∙ is) ∙ same)
+pub other_last : (names front rest : List ℕ) (last name : ℕ) → (last == name) ≡ false → names ≡ front ++ last ∷ [] → names ≡ rest ++ name ∷ [] → ⊥
+other_last names front rest last name off parts is = differ last name off (last_same front rest last name (sym parts ∙ is))
 
 pub empty_leads : (h : History) → JournalLeads h [] h
 empty_leads h = (refl, tt, refl)

@@ -15,9 +15,9 @@ use Rattle.pid_service_laws.specs.Registries.{Showing}
 use Rattle.pid_journal.specs.declared.counts.Counts.{Counts}
 use Rattle.pid_journal.specs.Journals.{counts_said, IsEntry}
 use Rattle.pid_journal.specs.Pairs.{AddsEntry}
-use Rattle.pid_journal.specs.Steps.Parts.{CutsAfter, IsUnmarked, MayBeMarked}
+use Rattle.pid_journal.specs.Steps.Parts.{CutsAfter, IsUnmarked, MarksAreWithin, MayBeMarked}
 use Rattle.pid_journal.specs.Steps.Notes.{IsMark, MayBeAdded, counts_in}
-use Rattle.pid_journal.specs.Doubts.{LeavesPart, MarksAreWithin}
+use Rattle.pid_journal.specs.Doubts.{LeavesPart}
 use Rattle.pid_journal.proofs.Appending.{empty_says_none}
 use Rattle.pid_journal.proofs.InTurn.{in_parts}
 use Rattle.pid_journal.proofs.Noted.{counted, leaves_part}
@@ -140,3 +140,6 @@ marked_end w r s safe now mark bytes status same is told adds text known =
       | inl left ↦ inl left
       | inr more ↦ inr (mark, counts_in status, is, more ∙ ap (λ (l : List ℕ). Some (text ++ l)) same, λ clean h shown. sym (counted_status status h (told clean h shown)))
     ]
+
+pub marks_within : (safe : Option (List ℕ)) (count : ℕ) → IfSome safe (λ text. MarksAreWithin text count) → (above rest : List ℕ) → safe ≡ Some (above ++ 10 ∷ 10 ∷ rest) → length above + 2 ≤ count
+marks_within safe count within above rest is = (subst (λ (o : Option (List ℕ)). IfSome o (λ text. MarksAreWithin text count)) is within) above rest refl

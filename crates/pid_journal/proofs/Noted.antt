@@ -1,6 +1,6 @@
 -- A command whose entry was written: what its end leaves.
 use Rattle.std.proofs.Common.{◌≡◌, ◌⊎◌, inl, inr, ℕ, true, false, List, [], ◌++◌, length, take, drop, Option, Some, None, Result, Ok, Err, refl, sym, ap, subst, ◌∙◌, append_assoc, append-nil, take-append-drop, take_at}
-use Rattle.std.specs.Prelude.{IfSome, IsErrAnd}
+use Rattle.std.specs.Prelude.{IfSome, IsErrAnd, IsSomeAnd}
 use Rattle.pid_moderation.specs.declared.command.Reply.{Reply}
 use Rattle.pid_moderation.specs.declared.refusal.Refusal.{Refusal}
 use Rattle.pid_moderation.specs.History.{Asked, History}
@@ -17,7 +17,7 @@ use Rattle.pid_journal.specs.Pairs.{PairFailsBetween, PairShows, pair_showing}
 use Rattle.pid_journal.specs.Steps.Parts.{IsCutBack, MayBeMarked, pair_showing_from}
 use Rattle.pid_journal.specs.Steps.Segments.{KeepsShown}
 use Rattle.pid_journal.specs.Steps.Notes.{IsMark}
-use Rattle.pid_journal.proofs.Appending.{appended, marked}
+use Rattle.pid_journal.proofs.Appending.{appended, is_kept, kept, marked}
 
 -- a part of some bytes is some first ones of them
 pub leaves_part : (now : Option (List ℕ)) (front behind part gone : List ℕ) → behind ≡ part ++ gone → now ≡ Some (front ++ part) → LeavesPart now front behind
@@ -69,7 +69,7 @@ module _ {R J : Type 0} (registry : Ghosts R) (file : files.Ghosts J) where
       → PairShows registry file start new h ⊎ PairFailsBetween registry file start new h (after h c)
   taken_back start h mid new text entry part gone c leads is parts shown safe settled back =
       elim (back text part safe refl settled) [
-        | inl cut ↦ inl (record { shown = shown; settled = cut.0; text = text; safe = cut.1; leads = leads })
+        | inl cut ↦ inl (record { shown = shown; settled = cut.0; leads = is_kept start h (file.safe new.journal) text cut.1 leads })
         | inr left ↦ inr (record {
           doubt = in_doubt start h (file.safe new.journal) text entry (take left.1.0 part) (drop left.1.0 part ++ gone) c leads is (parts ∙ ap (λ (l : List ℕ). l ++ gone) (sym (take-append-drop left.1.0 part)) ∙ append_assoc (take left.1.0 part) (drop left.1.0 part) gone) left.1.1;
           fails = inl (left.0, shown);
@@ -84,13 +84,11 @@ module _ {R J : Type 0} (registry : Ghosts R) (file : files.Ghosts J) where
       let longer = appended start h text entry c leads is in
       let still = kept clean (after h c) shown in
       elim (marks (text ++ entry) safe) [
-        | inl same ↦ record { shown = still; settled = settled; text = text ++ entry; safe = same; leads = longer }
+        | inl same ↦ record { shown = still; settled = settled; leads = is_kept start (after h c) (file.safe new.journal) (text ++ entry) same longer }
         | inr (mark, held, says, more, told) ↦ record {
           shown = still;
           settled = settled;
-          text = (text ++ entry) ++ mark;
-          safe = more;
-          leads = marked start (after h c) (text ++ entry) mark longer (subst (IsMark mark) (told clean (after h c) shown) says);
+          leads = is_kept start (after h c) (file.safe new.journal) ((text ++ entry) ++ mark) more (marked start (after h c) (text ++ entry) mark longer (subst (IsMark mark) (told clean (after h c) shown) says));
         }
       ]
 
@@ -113,11 +111,12 @@ module _ {R J : Type 0} (registry : Ghosts R) (file : files.Ghosts J) where
   pub unnoted : (start h : History) (p : Journaled R J) (r : R) (result : Result Reply Refusal) (c : Asked) → PairShows registry file start p h → after h c ≡ h → CommandLeaves registry.showing result r h c
       → CommandLeaves (pair_showing_from registry file start) result (record p { registry = r }) h c
   unnoted start h p r result c shows same (inl told) =
-      inl (told.0, record { shown = told.1; settled = shows.settled; text = shows.text; safe = shows.safe; leads = subst (λ (g : History). JournalLeads start shows.text g) (sym same) shows.leads })
+      inl (told.0, record { shown = told.1; settled = shows.settled; leads = subst (λ (g : History). IsSomeAnd (file.safe p.journal) (λ text. JournalLeads start text g)) (sym same) shows.leads })
   unnoted start h p r result c shows same (inr (fault, inl shown)) =
-      inr (fault, inl (record { shown = shown; settled = shows.settled; text = shows.text; safe = shows.safe; leads = shows.leads }))
+      inr (fault, inl (record { shown = shown; settled = shows.settled; leads = shows.leads }))
   unnoted start h p r result c shows same (inr (fault, inr fails)) =
-      inr (fault, inr (fallen_unnoted start h (after h c) (record p { registry = r }) shows.text shows.leads same fails shows.safe))
+      let journal = kept start h (file.safe p.journal) shows.leads in
+      inr (fault, inr (fallen_unnoted start h (after h c) (record p { registry = r }) journal.0 journal.2 same fails journal.1))
 
   -- a command leaves the same wherever the journal begins
   pub anywhere : (start h : History) (new : Journaled R J) (result : Result Reply Refusal) (c : Asked) → CommandLeaves (pair_showing_from registry file start) result new h c → CommandLeaves (pair_showing registry file) result new h c

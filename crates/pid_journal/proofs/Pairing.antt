@@ -40,7 +40,7 @@ module _ {R J : Type 0} (registry : Ghosts R) (file : files.Ghosts J) where
   with_registry p r = record p { registry = r }
 
   pub still_shows : (start h : History) (p : Journaled R J) (r : R) → PairShows registry file start p h → registry.showing.shows r h → PairShows registry file start (with_registry p r) h
-  still_shows start h p r shows shown = record { shown = shown; settled = shows.settled; text = shows.text; safe = shows.safe; leads = shows.leads }
+  still_shows start h p r shows shown = record { shown = shown; settled = shows.settled; leads = shows.leads }
 
   still_fails : (start h next : History) (p : Journaled R J) (r : R) (fails : PairFailsBetween registry file start p h next) → file.safe p.journal ≡ Some (fails.doubt.text ++ fails.doubt.more) → registry.showing.fails_between r h next → PairFailsBetween registry file start (with_registry p r) h next
   still_fails start h next p r fails none down = record { doubt = fails.doubt; fails = inr (none, down) }

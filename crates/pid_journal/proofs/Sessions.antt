@@ -7,7 +7,7 @@ use Rattle.pid_script.specs.Replies.{history_after}
 use Rattle.pid_journal.specs.Journals.{AreTrue, AreSegments, lines_in}
 use Rattle.pid_journal.specs.Laws.{StopsLeaveTheWay}
 use Rattle.pid_journal.specs.Steps.Ways.{IsInSegments, IsOnWay}
-use Rattle.pid_journal.proofs.Along.{on_segments}
+use Rattle.pid_journal.proofs.Along.{passed_along, segments_along}
 use Rattle.pid_journal.proofs.InTurn.{lines_both}
 use Rattle.pid_journal.proofs.Appending.{history_both}
 use Rattle.pid_journal.proofs.Scripts.{doubts, either}
@@ -40,7 +40,7 @@ stops start h next text front name told is doubt =
     let end : history_after start (lines_in text (front ++ name ∷ [])) ≡ history_after begin (whole_lines (text name)) =
     ap (history_after start) (all_lines text front name) ∙ history_both start (lines_in text front) (whole_lines (text name)) in (
       all,
-      (on_segments text start h (front ++ name ∷ []) (on_last start h text front name all ways.0)).1,
+      passed_along start h (lines_in text (front ++ name ∷ [])) (segments_along text start h (front ++ name ∷ []) (on_last start h text front name all ways.0)),
       λ whole. end ∙ ways.1 whole,
       elim (either begin h next (text name) doubt) [
         | inl same ↦ inl (end ∙ same)

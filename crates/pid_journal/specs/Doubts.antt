@@ -1,5 +1,5 @@
 -- What a fault or a stop leaves of what was written last: choices of this project.
-use Rattle.std.specs.Prelude.{◌≡◌, ◌⊎◌, ◌+◌, ◌≤◌, ℕ, List, [], ◌∷◌, ◌++◌, length, take, Option, Some}
+use Rattle.std.specs.Prelude.{◌≡◌, ◌⊎◌, ℕ, List, [], ◌++◌, take, Option, Some}
 use Rattle.pid_moderation.specs.History.{Asked, History}
 use Rattle.pid_moderation.specs.Judgement.{after}
 use Rattle.pid_journal.specs.Journals.{counts_held, IsEntry, IsNote, JournalLeads}
@@ -17,7 +17,3 @@ pub record IsInDoubt (start : History) (safe : Option (List ℕ)) (h next : Hist
   pub last : ((c : Asked) × IsEntry more (counts_held h) c × (next ≡ after h c))
       ⊎ (((more ≡ []) ⊎ IsNote more (counts_held h) []) × (next ≡ h))
   pub left : LeavesPart safe text more
-
--- A mark ends with an LF (10) after an LF. Those of the text are among its first bytes, so many.
-abbrev pub MarksAreWithin : List ℕ → ℕ → Type 0
-MarksAreWithin text count = (above rest : List ℕ) → text ≡ above ++ 10 ∷ 10 ∷ rest → length above + 2 ≤ count

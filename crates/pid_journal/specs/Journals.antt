@@ -78,7 +78,3 @@ AreSegments text h (name ∷ names) = (revision_of h ≡ name) × AreTrue h fals
 -- The history is one along the lines: the one after some of the first.
 abbrev pub IsPassed : History → List (List ℕ) → History → Type 0
 IsPassed start lines h = (n : ℕ) × (history_after start (take n lines) ≡ h)
-
--- it is one on the way along which segments lead
-abbrev pub IsOnSegments : (ℕ → List ℕ) → History → List ℕ → History → Type 0
-IsOnSegments text start names h = AreSegments text start names × IsPassed start (lines_in text names) h

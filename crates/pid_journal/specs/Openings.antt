@@ -1,5 +1,5 @@
 -- What an opening makes of a registry and of the folder of its journal: choices of this project.
-use Rattle.std.specs.Prelude.{◌≡◌, ◌≢◌, ◌⊎◌, ◌≤◌, ◌+◌, nat_le, nat_lt, ℕ, Bool, true, false, if◌then◌else◌}
+use Rattle.std.specs.Prelude.{◌≡◌, ◌⊎◌, ◌≤◌, ◌+◌, nat_le, nat_lt, ℕ, Bool, true, false, if◌then◌else◌}
 use Rattle.std.specs.Prelude.{List, [], ◌∷◌, ◌++◌, drop, find, filter_map, fold, Option, Some, option_map}
 use Rattle.std.specs.Prelude.{unwrap_or, MatchOption, Result, MatchResult, IfErr, IfOk}
 use Rattle.pid_file.specs.WholeLines.{whole_lines}
@@ -18,7 +18,7 @@ use Rattle.pid_journal.specs.declared.journaled.Journaled.{Journaled}
 use Rattle.pid_journal.specs.declared.open_fault.OpenFault.{OpenFault}
 use Rattle.pid_journal.specs.declared.open_fault.OpenFault.TheVariants.{Refused, Another, Newer}
 use Rattle.pid_journal.specs.declared.opened.Opened.{Opened}
-use Rattle.pid_journal.specs.Journals.{counts_held, counts_said, IsOnSegments, IsPassed, lines_in}
+use Rattle.pid_journal.specs.Journals.{counts_held, counts_said, AreSegments, IsPassed, lines_in}
 use Rattle.pid_journal.specs.Pairs.{AddsMark, PairShows}
 
 -- after a fault: the registry shows such a history, or has failed between two of them
@@ -47,36 +47,29 @@ FollowsInTurn text [] h g = h ≡ g
 FollowsInTurn text (name ∷ names) h g = FollowsInTurn text names h g ⊎ (StandsIn false text name h × (next : History)
     × ((from : ℕ) × IsPassed h (drop from (whole_lines (text name))) next) × FollowsInTurn text names next g)
 
--- these names do not end with this one
-abbrev pub IsNewName : List ℕ → ℕ → Type 0
-IsNewName names name = (front : List ℕ) (last : ℕ) → names ≡ front ++ last ∷ [] → last ≢ name
-
 -- `registry` is `R.RegistryCalls`, `folder` is `F.JournalFolder`, and `file` that of its segments
 module _ {R F J : Type 0} (registry : Ghosts R) (folder : folders.Ghosts F J) (file : files.Ghosts J) where
-  -- The registry shows the history of all lines. The journal goes on in the last segment, or in a new
-  -- one, which is named by the revision at which it begins.
-  pub record GoesOn (text : ℕ → List ℕ) (start : History) (names : List ℕ) (g : F) (p : Journaled R J) : Type 0 where
-    pub last : (folder.names g ≡ Some names)
-        ⊎ (IsNewName names (revision_of (history_after start (lines_in text names)))
-        × (folder.names g ≡ Some (names ++ revision_of (history_after start (lines_in text names)) ∷ [])))
-    pub shows : (front : List ℕ) (name : ℕ) → folder.names g ≡ Some (front ++ name ∷ []) → PairShows registry file
-        (history_after start (lines_in text front)) p (history_after start (lines_in text names))
+  -- The journal goes on in a new segment, which begins at this history, and is named by its revision.
+  abbrev pub BeginsNew : List ℕ → F → History → Journaled R J → Type 0
+  BeginsNew names g h p = (folder.names g ≡ Some (names ++ revision_of h ∷ [])) × PairShows registry file h p h
 
   -- If the names of the segments are known, of a registry that shows a history:
   pub record Resumes (text : ℕ → List ℕ) (names : List ℕ) (g : F) (h : History)
       (end : Result (Opened R J) (R × OpenFault)) : Type 0 where
-    -- A journal on whose way that is, is obeyed to its end. Or there is a fault; then it is still so.
-    pub obeyed : (start : History) → IsMarked start → IsOnSegments text start names h
-        → MatchResult end (λ o. (o.gap ≡ false) × GoesOn text start names g o.registry)
-        (λ back. ((refusal : Refusal) × (back.1 ≡ Refused refusal))
-        × StopsAtOne registry.showing (IsOnSegments text start names) back.0)
+    -- A journal on whose way that is, is obeyed to its end, and goes on in a new segment or in the last one. Or there
+    -- is a fault; then it is still so.
+    pub obeyed : (start : History) → IsMarked start → AreSegments text start names
+        → let passed = IsPassed start (lines_in text names) in let at = λ (ns : List ℕ). history_after start (lines_in text ns) in
+        passed h → MatchResult end (λ o. (o.gap ≡ false) × (BeginsNew names g (at names) o.registry
+        ⊎ ((folder.names g ≡ Some names) × (front : List ℕ) × (name : ℕ) × (names ≡ front ++ name ∷ [])
+        × PairShows registry file (at front) o.registry (at names))))
+        (λ back. ((refusal : Refusal) × (back.1 ≡ Refused refusal)) × StopsAtOne registry.showing passed back.0)
     -- Whatever it answers, it obeyed no lines but of segments in which the registry was.
     pub obeys : MatchResult end
         (λ o. (now : History) × registry.showing.shows o.registry.registry now × FollowsInTurn text names h now)
         (λ back. StopsAtOne registry.showing (FollowsInTurn text names h) back.0)
     -- After a gap the journal begins at that history, in a new segment.
-    pub gap : IfOk end (λ o. o.gap ≡ true → PairShows registry file h o.registry h
-        × (folder.names g ≡ Some (names ++ revision_of h ∷ [])))
+    pub gap : IfOk end (λ o. o.gap ≡ true → BeginsNew names g h o.registry)
     -- the first segment has begun
     pub begun : IfOk end (λ o. (name : ℕ) (later : List ℕ) → names ≡ name ∷ later → name ≤ revision_of h)
     -- If the last one has begun, the registry stands in it, or past it before a gap; in another's it does neither.

@@ -1,6 +1,6 @@
 -- A registry and the journal in front of it: what they show. Choices of this project.
 use Rattle.std.specs.Prelude.{◌≡◌, ◌⊎◌, ℕ, Bool, true, false, not, ◌&&◌, List, [], ◌++◌, Option, Some}
-use Rattle.std.specs.Prelude.{Result, IsErr}
+use Rattle.std.specs.Prelude.{IsSomeAnd, Result, IsErr}
 use Rattle.pid_moderation.specs.declared.command.Reply.{Reply}
 use Rattle.pid_moderation.specs.declared.refusal.Refusal.{Refusal}
 use Rattle.pid_moderation.specs.History.{Asked, History}
@@ -26,9 +26,7 @@ module _ {R J : Type 0} (registry : Ghosts R) (file : files.Ghosts J) where
   pub record PairShows (start : History) (p : Journaled R J) (h : History) : Type 0 where
     pub shown : registry.showing.shows p.registry h
     pub settled : p.failed ≡ false
-    pub text : List ℕ
-    pub safe : file.safe p.journal ≡ Some text
-    pub leads : JournalLeads start text h
+    pub leads : IsSomeAnd (file.safe p.journal) (λ text. JournalLeads start text h)
 
   -- It has failed at a command: the registry shows the history before, and the entry could not be cut
   -- off, of which a part may be left; or the registry itself has failed, and the entry is whole.

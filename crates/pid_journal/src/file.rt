@@ -2,6 +2,9 @@
 ghost use Rattle.std.specs.Prelude.{
   ◌≡◌,
   ◌⊎◌,
+  ◌+◌,
+  ◌≤◌,
+  ◌∷◌,
   ◌++◌,
   ℕ,
   List,
@@ -12,7 +15,7 @@ ghost use Rattle.std.specs.Prelude.{
   MatchResult,
   length,
 };
-ghost use Rattle.pid_journal.specs.Doubts.{LeavesPart, MarksAreWithin};
+ghost use Rattle.pid_journal.specs.Doubts.{LeavesPart};
 
 use pid_ident::WriteFault;
 
@@ -41,11 +44,12 @@ pub trait JournalFile {
         ensures { (front : List ℕ) → safe self.old ≡ Some front
             → (safe self.new ≡ Some front) ⊎ (safe self.new ≡ Some (front ++ bytes.now)) };
 
-    /// Cuts off what comes after so many bytes, among which are all marks, and syncs the file. So
-    /// what a reader has seen above a mark stays. After a fault any prefix of what is cut off may
+    /// Cuts off what comes after so many bytes, among which are all marks, and syncs the file. A mark
+    /// ends with an LF (10) after an LF. So what a reader has seen above a mark stays. After a fault any prefix of what is cut off may
     /// still be there.
     fn cut(&mut self, count: u64) -> Result<(), WriteFault>
-        requires { IfSome (safe self.old) (λ text. MarksAreWithin text count) }
+        requires { (above rest : List ℕ) → safe self.old ≡ Some (above ++ 10 ∷ 10 ∷ rest)
+            → length above + 2 ≤ count }
         ensures { (front behind : List ℕ) → safe self.old ≡ Some (front ++ behind) → length front ≡ count
             → MatchResult result (λ _. safe self.new ≡ Some front)
             (λ _. LeavesPart (safe self.new) front behind) };

@@ -90,8 +90,10 @@ pub trait JournalFolder {
         ensures handed { MatchResult result (λ _. openings self.new ≡ openings self.old + 1)
             (λ _. openings self.new ≡ openings self.old) };
 
-    /// Makes an empty segment that begins at a revision, where none does yet. Its name is synced.
+    /// Makes an empty segment that begins at a revision, where the last one does not. Its name is
+    /// synced.
     fn new_segment(&mut self, begin: u64) -> Result<Self::Segment, Refusal>
+        requires { (front : List ℕ) → names self.old ≢ Some (front ++ begin ∷ []) }
         ensures same { text_in self.new ≡ text_in self.old }
         ensures made { IfOk result (λ file. IfSome (names self.old) (λ all. (Self.Segment.safe file ≡ Some [])
             × (text_in self.old begin ≡ []) × (names self.new ≡ Some (all ++ begin ∷ [])))) }

@@ -1,5 +1,5 @@
 //! One command: its entry is safe before it is judged.
-ghost use Rattle.std.specs.Prelude.{◌≡◌, ◌≢◌, true, false, Err, IfSome, IsErrAnd};
+ghost use Rattle.std.specs.Prelude.{◌≡◌, ◌≢◌, ◌⊎◌, true, false, Err, IfSome, IsErrAnd};
 ghost use Rattle.pid_moderation.specs.Faults.{IsMemoryOrStore};
 ghost use Rattle.pid_moderation.specs.Files.{asks};
 ghost use Rattle.pid_moderation.specs.History.{History};
@@ -7,12 +7,10 @@ ghost use Rattle.pid_service_laws.specs.CallLaws.{StaysClean};
 ghost use Rattle.pid_service_laws.specs.Registries.{CommandLeaves};
 ghost use Rattle.pid_journal.specs.declared.counts.Counts.{Counts};
 ghost use Rattle.pid_journal.specs.Journals.{counts_held, IsEntry};
-ghost use Rattle.pid_journal.specs.Doubts.{MarksAreWithin};
 ghost use Rattle.pid_journal.specs.Pairs.{
   AddsEntry,
   ObeysAnywhere,
   PairShows,
-  pair_is_live,
   pair_showing,
 };
 ghost use Rattle.pid_journal.specs.Steps.Parts.{
@@ -20,6 +18,7 @@ ghost use Rattle.pid_journal.specs.Steps.Parts.{
   IsProbed,
   IsCutBack,
   IsUnmarked,
+  MarksAreWithin,
   pair_showing_from,
 };
 
@@ -122,7 +121,7 @@ impl<R: RegistryQueries, J: JournalFile> Journaled<R, J> {
         // It shows the history to which its journal leads.
         ensures obeyed { ObeysAnywhere R.RegistryCalls J.JournalFile self.old (asks command) result
             self.new }
-        ensures failed { pair_is_live R.RegistryCalls J.JournalFile self.old ≡ false
+        ensures failed { (self.old.failed ≡ true) ⊎ (R.is_live self.old.registry ≡ false)
             → (result ≡ Err Refusal.Failed) × (self.new ≡ self.old) }
         // What its journal has stays, and the entry of the command comes to it.
         ensures added { AddsEntry (J.safe self.old.journal) (J.safe self.new.journal) (asks command) result }

@@ -1,7 +1,7 @@
 //! The journal of a folder, put in front of its registry.
-ghost use Rattle.std.specs.Prelude.{◌≡◌, ℕ, List, Some, false, true, IfOk};
+ghost use Rattle.std.specs.Prelude.{◌≡◌, ℕ, List, Some, false, true, IfOk, IfSome};
 ghost use Rattle.pid_service_laws.specs.CallLaws.{StaysClean};
-ghost use Rattle.pid_journal.specs.Openings.{IsNewName, OpensJournal};
+ghost use Rattle.pid_journal.specs.Openings.{OpensJournal};
 ghost use Rattle.pid_journal.specs.Steps.Comparing.{ComparesGap, ObeysSome};
 ghost use Rattle.pid_journal.specs.Steps.Reopening.{
   BeginsSegment,
@@ -10,7 +10,8 @@ ghost use Rattle.pid_journal.specs.Steps.Reopening.{
   FindsNext,
   LeavesFolder,
 };
-ghost use Rattle.pid_journal.specs.Steps.Segments.{AsksOn, HasComeToFirst};
+ghost use Rattle.pid_journal.specs.Steps.Reads.{AreNames};
+ghost use Rattle.pid_journal.specs.Steps.Segments.{AsksName, AsksOn, HasComeToFirst, IsNewName};
 
 use crate::folder::JournalFolder;
 use crate::journaled::Journaled;
@@ -19,26 +20,9 @@ use crate::opened::Opened;
 use crate::reopening::{cut_torn, reopen};
 use crate::segment_text::SegmentText;
 use crate::segments::{follow_all, revision_of};
+use pid_moderation::Refusal;
 use pid_service_laws::RegistryQueries;
 use std::alloc::Global;
-
-// A new segment, which begins where a registry stands.
-fn begin_segment<R: RegistryQueries, F: JournalFolder>(
-    registry: &mut R,
-    folder: &mut F,
-) -> Result<F::Segment, OpenFault>
-    ensures { BeginsSegment R.RegistryCalls F.JournalFolder F.Segment.JournalFile registry.old
-        registry.new folder.old folder.new result }
-{
-    let revision = match revision_of(registry) {
-        Ok(revision) => revision,
-        Err(fault) => return Err(fault),
-    };
-    match folder.new_segment(revision) {
-        Ok(segment) => Ok(segment),
-        Err(refusal) => Err(OpenFault::Refused(refusal)),
-    }
-}
 
 // Whether the last of some names is this one.
 fn is_last(names: &[u64], name: u64) -> bool
@@ -50,6 +34,43 @@ fn is_last(names: &[u64], name: u64) -> bool
     }
 }
 
+// The name of a segment that begins where a registry stands, unless the last one has it.
+fn new_name<R: RegistryQueries>(registry: &mut R, begins: &[u64]) -> Result<Option<u64>, OpenFault>
+    ensures asked { AsksName R.showing registry.old registry.new result }
+    ensures new { IfOk result (λ name. IfSome name (IsNewName begins.now)) }
+{
+    match revision_of(registry) {
+        Ok(revision) => {
+            if is_last(begins, revision) {
+                return Ok(None);
+            }
+            Ok(Some(revision))
+        }
+        Err(fault) => Err(fault),
+    }
+}
+
+// A new segment, which begins where a registry stands. `Store` if the last one has its name.
+fn begin_segment<R: RegistryQueries, F: JournalFolder>(
+    registry: &mut R,
+    folder: &mut F,
+    begins: &[u64],
+) -> Result<F::Segment, OpenFault>
+    requires { AreNames F.JournalFolder folder.old begins.now }
+    ensures { BeginsSegment R.RegistryCalls F.JournalFolder F.Segment.JournalFile registry.old
+        registry.new folder.old folder.new result }
+{
+    let revision = match new_name(registry, begins) {
+        Ok(Some(revision)) => revision,
+        Ok(None) => return Err(OpenFault::Refused(Refusal::Store)),
+        Err(fault) => return Err(fault),
+    };
+    match folder.new_segment(revision) {
+        Ok(segment) => Ok(segment),
+        Err(refusal) => Err(OpenFault::Refused(refusal)),
+    }
+}
+
 // Whether a journal goes on in its last segment. One that is longer than so many bytes ends, but not
 // where its last command has no mark yet, nor where the next one would have its name.
 fn goes_on<R: RegistryQueries>(
@@ -58,13 +79,13 @@ fn goes_on<R: RegistryQueries>(
     begins: &[u64],
     longest: u64,
 ) -> Result<bool, OpenFault>
-    ensures { AsksOn R.showing registry.old registry.new begins.now result }
+    ensures { AsksOn R.showing registry.old registry.new result }
 {
     if text.read() <= longest || !text.is_marked() {
         return Ok(true);
     }
-    match revision_of(registry) {
-        Ok(revision) => Ok(is_last(begins, revision)),
+    match new_name(registry, begins) {
+        Ok(name) => Ok(name.is_none()),
         Err(fault) => Err(fault),
     }
 }
@@ -78,11 +99,12 @@ fn segment_after<R: RegistryQueries, F: JournalFolder>(
     begins: &[u64],
     longest: u64,
 ) -> Result<F::Segment, OpenFault>
+    requires { AreNames F.JournalFolder folder.old begins.now }
     ensures { FindsNext R.RegistryCalls F.JournalFolder F.Segment.JournalFile registry.old
-        registry.new folder.old folder.new last begins.now result }
+        registry.new folder.old folder.new last result }
 {
     let Some(text) = last else {
-        return begin_segment(registry, folder);
+        return begin_segment(registry, folder, begins);
     };
     match cut_torn(folder, &text) {
         Ok(()) => {}
@@ -90,7 +112,7 @@ fn segment_after<R: RegistryQueries, F: JournalFolder>(
     }
     match goes_on(registry, &text, begins, longest) {
         Ok(true) => reopen(alloc, registry, folder, &text),
-        Ok(false) => begin_segment(registry, folder),
+        Ok(false) => begin_segment(registry, folder, begins),
         Err(fault) => Err(fault),
     }
 }
@@ -124,7 +146,7 @@ fn find_segment<R: RegistryQueries, F: JournalFolder>(
     let last = match follow_all(alloc, registry, folder, begins.as_slice()) {
         Ok(last) => last,
         Err(OpenFault::Newer) => {
-            return match begin_segment(registry, folder) {
+            return match begin_segment(registry, folder, begins.as_slice()) {
                 Ok(segment) => Ok((segment, true)),
                 Err(fault) => Err(fault),
             };

@@ -13,6 +13,16 @@ one_off : (failed live : Bool) → live ≡ false → (not failed && live) ≡ f
 one_off true live off = refl
 one_off false live off = off
 
+-- one that is off counts as failed, or its registry has failed
+pub off_either : (failed live : Bool) → (not failed && live) ≡ false → (failed ≡ true) ⊎ (live ≡ false)
+off_either true live off = inl refl
+off_either false live off = inr off
+
+-- of one that has no entry left it is the registry
+pub off_alone : (failed live : Bool) → failed ≡ false → (failed ≡ true) ⊎ (live ≡ false) → live ≡ false
+off_alone failed live settled (inl down) = absurd cc
+off_alone failed live settled (inr off) = off
+
 -- one that counts as failed, or whose registry has failed
 pub either_fails : {A B : Type 0} (failed live : Bool) → ((failed ≡ true) × A) ⊎ B
     → (B → live ≡ false) → (not failed && live) ≡ false

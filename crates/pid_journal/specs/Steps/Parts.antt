@@ -1,5 +1,5 @@
 -- What the steps of a command leave of a registry and of its journal.
-use Rattle.std.specs.Prelude.{◌≡◌, ◌⊎◌, ℕ, Bool, true, false, List, ◌∷◌, ◌++◌, length, Option, Some}
+use Rattle.std.specs.Prelude.{◌≡◌, ◌⊎◌, ◌+◌, ◌≤◌, ℕ, Bool, true, false, List, ◌∷◌, ◌++◌, length, Option, Some}
 use Rattle.pid_moderation.specs.History.{History}
 use Rattle.pid_service_laws.specs.CallLaws.{StaysClean}
 use Rattle.pid_service_laws.specs.Registries.{Showing}
@@ -23,6 +23,10 @@ pub record IsProbed {R : Type 0} (w : Showing R) (is_live : R → Bool) (old new
   pub fallen : (h next : History) → w.fails_between old h next
       → (live ≡ false) × w.fails_between new h next
   pub off : is_live old ≡ false → (live ≡ false) × (new ≡ old)
+
+-- A mark ends with an LF (10) after an LF. Those of the text are among its first bytes, so many.
+abbrev pub MarksAreWithin : List ℕ → ℕ → Type 0
+MarksAreWithin text count = (above rest : List ℕ) → text ≡ above ++ 10 ∷ 10 ∷ rest → length above + 2 ≤ count
 
 -- of so many bytes nothing was cut off
 abbrev pub CutsAfter : (old now : Option (List ℕ)) → ℕ → Type 0

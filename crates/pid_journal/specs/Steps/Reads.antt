@@ -32,6 +32,10 @@ module _ {F J : Type 0} (folder : folders.Ghosts F J) where
     pub quiet : folder.openings g ≡ folder.openings f
     pub begin : u.begin ≡ t.begin
 
+  -- the names are these, if they are known
+  abbrev pub AreNames : F → List ℕ → Type 0
+  AreNames f begins = (names : List ℕ) → folder.names f ≡ Some names → begins ≡ names
+
   -- what holds of the text of a segment, if it is known
   abbrev pub OfText : F → SegmentText → (List ℕ → Type 0) → Type 0
   OfText f t Says = (names : List ℕ) → folder.names f ≡ Some names → Says (folder.text_in f t.begin)

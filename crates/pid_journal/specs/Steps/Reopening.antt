@@ -1,5 +1,5 @@
 -- The segment in which a journal goes on after an opening.
-use Rattle.std.specs.Prelude.{◌≡◌, ◌⊎◌, ℕ, Bool, false, List, [], ◌∷◌, ◌++◌, Option, Some, None}
+use Rattle.std.specs.Prelude.{◌≡◌, ◌⊎◌, ℕ, Bool, false, List, [], ◌∷◌, ◌++◌, Option, Some}
 use Rattle.std.specs.Prelude.{Result, MatchResult, IfErr, IfOk}
 use Rattle.pid_moderation.specs.History.{History}
 use Rattle.pid_moderation.specs.Revisions.{IsMarked}
@@ -13,14 +13,13 @@ use Rattle.pid_journal.specs.declared.folder.JournalFolder as folders
 use Rattle.pid_journal.specs.declared.open_fault.OpenFault.{OpenFault}
 use Rattle.pid_journal.specs.declared.segment_text.SegmentText.{SegmentText}
 use Rattle.pid_journal.specs.Journals.{JournalLeads, lines_in}
-use Rattle.pid_journal.specs.Openings.{IsNewName}
 use Rattle.pid_journal.specs.Steps.Faults.{IsRefused}
 use Rattle.pid_journal.specs.Pairs.{AddsMark}
 use Rattle.pid_journal.specs.Steps.Parts.{MayBeMarked}
 use Rattle.pid_journal.specs.Steps.Places.{IsOpenEnd}
 use Rattle.pid_journal.specs.Steps.Reads.{EndsAt, held_of}
 use Rattle.pid_journal.specs.Steps.Segments.{FaultsAlong, HandsOut, HasComeToLast, IsLateFault, IsSameFolder}
-use Rattle.pid_journal.specs.Steps.Segments.{KeepsLines, KeepsShown, LinesMayBeObeyed, MayBegin, ShowsWithin}
+use Rattle.pid_journal.specs.Steps.Segments.{KeepsLines, KeepsShown, LinesMayBeObeyed, ShowsWithin}
 
 module _ {F J : Type 0} (folder : folders.Ghosts F J) where
   -- Of a segment that was read to its end the whole lines are left.
@@ -55,8 +54,8 @@ module _ {R F J : Type 0} (registry : Ghosts R) (folder : folders.Ghosts F J) (f
     pub front : List ℕ
     pub name : ℕ
     pub named : after ≡ Some (front ++ name ∷ [])
-    pub last : ((names ≡ front) × (name ≡ revision_of (history_after start (lines_in text names)))
-        × IsNewName names (revision_of (history_after start (lines_in text names)))) ⊎ (after ≡ Some names)
+    pub last : ((names ≡ front) × (name ≡ revision_of (history_after start (lines_in text names))))
+        ⊎ (after ≡ Some names)
     pub shown : registry.showing.shows new (history_after start (lines_in text names))
     pub kept : List ℕ
     pub safe : file.safe k ≡ Some kept
@@ -97,14 +96,13 @@ module _ {R F J : Type 0} (registry : Ghosts R) (folder : folders.Ghosts F J) (f
     pub marked : EndsMarked registry.showing folder file old new g t k
 
   -- or where the journal goes on after the last one
-  pub record FindsNext (old new : R) (f g : F) (last : Option SegmentText) (names : List ℕ)
-      (result : Result J OpenFault) : Type 0 where
+  pub record FindsNext (old new : R) (f g : F) (last : Option SegmentText) (result : Result J OpenFault) : Type 0 where
     pub honest : StaysClean registry.showing old new
     pub kept : KeepsShown registry.showing old new
     pub keeps : ((t : SegmentText) → last ≡ Some t → EndsAt folder f t) → KeepsLines folder f g
     pub hands : HandsOut folder f g result
     pub goes : IfOk result (λ k. ((t : SegmentText) × (last ≡ Some t) × GoesOnIn old new f g t k)
-        ⊎ (Begins old new f g k × ((last ≡ None) ⊎ MayBegin registry.showing old new names)))
+        ⊎ Begins old new f g k)
     pub fault : IsLateFault result
 
   abbrev pub FindsGap : R → R → (f g : F) → J → Type 0

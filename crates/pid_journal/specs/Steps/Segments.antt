@@ -1,6 +1,6 @@
 -- The segments of a journal, obeyed in turn.
-use Rattle.std.specs.Prelude.{◌≡◌, ◌⊎◌, ◌≤◌, ◌+◌, ℕ, Bool, false, List, [], ◌∷◌, ◌++◌, Option, Some, None}
-use Rattle.std.specs.Prelude.{Result, MatchResult, IfErr, IfOk}
+use Rattle.std.specs.Prelude.{◌≡◌, ◌≢◌, ◌⊎◌, ◌≤◌, ◌+◌, ℕ, Bool, false, List, [], ◌∷◌, ◌++◌, Option, Some, None}
+use Rattle.std.specs.Prelude.{Result, Ok, MatchResult, IfErr, IfOk, IfSome}
 use Rattle.pid_file.specs.WholeLines.{whole_lines}
 use Rattle.pid_moderation.specs.History.{History}
 use Rattle.pid_moderation.specs.Revisions.{IsMarked}
@@ -15,7 +15,7 @@ use Rattle.pid_journal.specs.declared.open_fault.OpenFault.TheVariants.{Another,
 use Rattle.pid_journal.specs.declared.segment_text.SegmentText.{SegmentText}
 use Rattle.pid_journal.specs.Journals.{AreTrue, lines_in}
 use Rattle.pid_journal.specs.Steps.Ways.{IsAlong, IsInSegments, IsOnWay}
-use Rattle.pid_journal.specs.Openings.{IsNewName, StopsAtOne}
+use Rattle.pid_journal.specs.Openings.{StopsAtOne}
 use Rattle.pid_journal.specs.Steps.Faults.{IsRefused}
 
 -- a fault that leaves open whether the registry obeyed lines
@@ -28,6 +28,10 @@ LinesMayBeObeyed other = Unit {0}
 abbrev pub KeepsShown : {R : Type 0} → Showing R → R → R → Type 0
 KeepsShown w old new = w.is_clean new → (h : History) → w.shows old h → w.shows new h
 
+-- these names do not end with this one
+abbrev pub IsNewName : List ℕ → ℕ → Type 0
+IsNewName names name = (front : List ℕ) → names ≢ front ++ name ∷ []
+
 -- the segments begin at no later revisions
 abbrev pub HasBegun : History → List ℕ → Type 0
 HasBegun h names = (above below : List ℕ) (name : ℕ) → names ≡ above ++ name ∷ below
@@ -36,10 +40,6 @@ HasBegun h names = (above below : List ℕ) (name : ℕ) → names ≡ above ++ 
 -- the registry had come to where a segment begins
 abbrev pub HasComeTo : {R : Type 0} → Showing R → R → R → ℕ → Type 0
 HasComeTo w old new begin = w.is_clean new → (h : History) → w.shows old h → begin ≤ revision_of h
-
--- a segment that begins where the registry stands is none of these that ends them
-abbrev pub MayBegin : {R : Type 0} → Showing R → R → R → List ℕ → Type 0
-MayBegin w old new names = w.is_clean new → (h : History) → w.shows old h → IsNewName names (revision_of h)
 
 -- so had it to where the first one of these begins
 abbrev pub HasComeToFirst : {R : Type 0} → Showing R → R → R → List ℕ → Type 0
@@ -66,12 +66,17 @@ pub record AsksRevision {R : Type 0} (w : Showing R) (old new : R) (result : Res
   pub told : TellsRevision w old new result
   pub fault : IsLateFault result
 
--- so it is asked whether the journal goes on in the last one of these
-pub record AsksOn {R : Type 0} (w : Showing R) (old new : R) (names : List ℕ)
-    (result : Result Bool OpenFault) : Type 0 where
+-- so it is asked for the name of a new segment
+pub record AsksName {R : Type 0} (w : Showing R) (old new : R) (result : Result (Option ℕ) OpenFault) : Type 0 where
   pub honest : StaysClean w old new
   pub kept : KeepsShown w old new
-  pub ends : IfOk result (λ goes. goes ≡ false → MayBegin w old new names)
+  pub told : IfOk result (λ name. IfSome name (λ n. TellsRevision w old new (Ok n)))
+  pub fault : IsLateFault result
+
+-- so it is asked whether the journal goes on in its last segment
+pub record AsksOn {R : Type 0} (w : Showing R) (old new : R) (result : Result Bool OpenFault) : Type 0 where
+  pub honest : StaysClean w old new
+  pub kept : KeepsShown w old new
   pub fault : IsLateFault result
 
 -- the registry shows a history on the way along which segments lead

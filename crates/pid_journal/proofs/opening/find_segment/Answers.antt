@@ -1,4 +1,4 @@
-use Rattle.std.proofs.Common.{ℕ, List, Ok, false, true, inl, refl, rules, subst, ◌∙◌}
+use Rattle.std.proofs.Common.{ℕ, List, Ok, false, true, inl, refl, rules, subst, sym, ◌∙◌}
 use Rattle.std.specs.Prelude.{IsSorted}
 use Rattle.std.specs.Ordering.{nat_cmp}
 use Rattle.pid_journal.specs.Steps.Comparing.{FitsGap, RefusesOther}
@@ -17,7 +17,7 @@ returns-in-Ok-segment_after-clause-found g c clean names known start marked show
     let follows = at_folder g.R.RegistryCalls g.F.JournalFolder c.args.registry.now c.follow_all.new.registry c.args.folder.now c.begins.new.self names c.as_slice.result.now (Ok c.in-Ok-follow_all.last) c.begins.ensures.same is c.in-Ok-follow_all.ensures.followed in
     let ends = ends_at g.R.RegistryCalls g.F.JournalFolder c.args.folder.now c.begins.new.self names c.as_slice.result.now c.in-Ok-follow_all.last c.begins.ensures.same is c.in-Ok-follow_all.ensures.ended in (
       refl,
-      found g.R.RegistryCalls g.F.JournalFolder g.F.Segment.JournalFile c.args.registry.now c.follow_all.new.registry c.segment_after.new.registry c.args.folder.now c.follow_all.new.folder c.segment_after.new.folder names c.as_slice-2.result.now c.in-Ok-follow_all.last c.in-Ok-segment_after.segment (c.as_slice-2.ensures.value ∙ read_names (g.F.JournalFolder.names c.args.folder.now) names c.in-Ok.begins.items known c.in-Ok.ensures.read)
+      found g.R.RegistryCalls g.F.JournalFolder g.F.Segment.JournalFile c.args.registry.now c.follow_all.new.registry c.segment_after.new.registry c.args.folder.now c.follow_all.new.folder c.segment_after.new.folder names c.in-Ok-follow_all.last c.in-Ok-segment_after.segment
           follows ends (c.follow_all.ensures.brings.same.0 ∙ c.begins.ensures.same.0, c.follow_all.ensures.brings.same.1 ∙ c.begins.ensures.same.1) c.segment_after.ensures.honest c.segment_after.ensures.kept c.in-Ok-segment_after.ensures.goes clean known start marked shows,
     )
 
@@ -155,7 +155,7 @@ returns-in-Ok-segment_after-clause-leaves g c =
       handed = λ names known.
           let is = c.as_slice.ensures.value ∙ read_names (g.F.JournalFolder.names c.args.folder.now) names c.in-Ok.begins.items known c.in-Ok.ensures.read in
           let ends = ends_at g.R.RegistryCalls g.F.JournalFolder c.args.folder.now c.begins.new.self names c.as_slice.result.now c.in-Ok-follow_all.last c.begins.ensures.same is c.in-Ok-follow_all.ensures.ended in
-          hands_on g.R.RegistryCalls g.F.JournalFolder g.F.Segment.JournalFile c.follow_all.new.registry c.segment_after.new.registry c.args.folder.now c.follow_all.new.folder c.segment_after.new.folder names c.as_slice-2.result.now c.in-Ok-follow_all.last c.in-Ok-segment_after.segment ends same.0 c.in-Ok-segment_after.ensures.goes known;
+          hands_on g.R.RegistryCalls g.F.JournalFolder g.F.Segment.JournalFile c.follow_all.new.registry c.segment_after.new.registry c.args.folder.now c.follow_all.new.folder c.segment_after.new.folder names c.in-Ok-follow_all.last c.in-Ok-segment_after.segment ends same.0 c.in-Ok-segment_after.ensures.goes known;
       stays = tt;
     }
 
@@ -190,3 +190,13 @@ returns-in-Err-Newer-clause-leaves g c =
         stays = inl w.in-Err-begin_segment.ensures.fault.1;
       })
     ]
+
+-- THE NAMES
+
+pub segment_after-requires : goal.segment_after-requires
+segment_after-requires g c names known =
+    c.as_slice-2.ensures.value ∙ read_names (g.F.JournalFolder.names c.args.folder.now) names c.in-Ok.begins.items (sym (c.follow_all.ensures.brings.same.0 ∙ c.begins.ensures.same.0) ∙ known) c.in-Ok.ensures.read
+
+pub begin_segment-requires : goal.begin_segment-requires
+begin_segment-requires g c names known =
+    c.as_slice-in-Err-Newer.ensures.value ∙ read_names (g.F.JournalFolder.names c.args.folder.now) names c.in-Ok.begins.items (sym (c.follow_all.ensures.brings.same.0 ∙ c.begins.ensures.same.0) ∙ known) c.in-Ok.ensures.read

@@ -7,7 +7,7 @@ use Rattle.pid_moderation.specs.Views.{views_of}
 use Rattle.pid_moderation.specs.RegistryStatus.{registry_status_of}
 use Rattle.pid_journal.specs.Journals.{IsEntry}
 use Rattle.pid_journal.specs.Pairs.{PairShows}
-use Rattle.pid_journal.specs.Steps.Living.{registry_off}
+use Rattle.pid_journal.specs.Steps.Living.{off_alone}
 use Rattle.pid_journal.proofs.Forms.{broken_stays, tells_any}
 use Rattle.pid_journal.specs.Steps.Parts.{IsUnmarked}
 use Rattle.pid_journal.specs.Steps.Notes.{counts_in}
@@ -28,7 +28,7 @@ returns-in_err-status-clause-obeyed g c clean start h shows =
 
 pub returns-in_err-status-clause-failed : goal.returns-in_err-status-clause-failed
 returns-in_err-status-clause-failed g c off =
-    let f = c.in_err-status.ensures.failed (registry_off c.args.self.now.failed (g.R.RegistryCalls.is_live c.args.self.now.registry) c.if-self.false off) in
+    let f = c.in_err-status.ensures.failed (off_alone c.args.self.now.failed (g.R.RegistryCalls.is_live c.args.self.now.registry) c.if-self.false off) in
     (is_error c.from_residual.result c.in_err-status.field-0.0 c.from_residual.ensures.1 ∙ ap (λ (r : Result Status Refusal). Err (refusal_or r Failed)) f.0, ap (with_registry g.R.RegistryCalls g.J.JournalFile c.args.self.now) f.1)
 
 pub returns-then-breaks_form-clause-obeyed : goal.returns-then-breaks_form-clause-obeyed
@@ -39,7 +39,7 @@ returns-then-breaks_form-clause-obeyed g c clean start h shows =
 
 pub returns-then-breaks_form-clause-failed : goal.returns-then-breaks_form-clause-failed
 returns-then-breaks_form-clause-failed g c off =
-    let f = c.in_ok-status.ensures.failed (registry_off c.args.self.now.failed (g.R.RegistryCalls.is_live c.args.self.now.registry) c.if-self.false off) in absurd (let no : ⊥ = cc (f.0) in no)
+    let f = c.in_ok-status.ensures.failed (off_alone c.args.self.now.failed (g.R.RegistryCalls.is_live c.args.self.now.registry) c.if-self.false off) in absurd (let no : ⊥ = cc (f.0) in no)
 
 pub returns-in_err-entry-clause-obeyed : goal.returns-in_err-entry-clause-obeyed
 returns-in_err-entry-clause-obeyed g c clean start h shows =
@@ -48,7 +48,7 @@ returns-in_err-entry-clause-obeyed g c clean start h shows =
 
 pub returns-in_err-entry-clause-failed : goal.returns-in_err-entry-clause-failed
 returns-in_err-entry-clause-failed g c off =
-    let f = c.in_ok-status.ensures.failed (registry_off c.args.self.now.failed (g.R.RegistryCalls.is_live c.args.self.now.registry) c.if-self.false off) in absurd (let no : ⊥ = cc (f.0) in no)
+    let f = c.in_ok-status.ensures.failed (off_alone c.args.self.now.failed (g.R.RegistryCalls.is_live c.args.self.now.registry) c.if-self.false off) in absurd (let no : ⊥ = cc (f.0) in no)
 
 pub returns-clause-honest : goal.returns-clause-honest
 returns-clause-honest g c clean = c.in_ok-status.ensures.calls.clean (c.obey_noted.ensures.honest clean)
@@ -61,7 +61,7 @@ returns-clause-obeyed g c clean start h shows =
 
 pub returns-clause-failed : goal.returns-clause-failed
 returns-clause-failed g c off =
-    let f = c.in_ok-status.ensures.failed (registry_off c.args.self.now.failed (g.R.RegistryCalls.is_live c.args.self.now.registry) c.if-self.false off) in absurd (let no : ⊥ = cc (f.0) in no)
+    let f = c.in_ok-status.ensures.failed (off_alone c.args.self.now.failed (g.R.RegistryCalls.is_live c.args.self.now.registry) c.if-self.false off) in absurd (let no : ⊥ = cc (f.0) in no)
 
 -- a file that is not UTF-8
 pub returns-then-branch-clause-obeyed : goal.returns-then-branch-clause-obeyed

@@ -4,6 +4,7 @@ use Rattle.pid_moderation.specs.Files.{asks}
 use Rattle.pid_moderation.specs.Judgement.{after}
 use Rattle.pid_moderation.specs.Views.{views_of}
 use Rattle.pid_journal.specs.Steps.Parts.{IsCutBack}
+use Rattle.pid_journal.proofs.Appending.{kept}
 use Rattle.pid_journal.proofs.Marks.{added, added_back, added_marked, appended_part, err_of, left_within}
 use Rattle.pid_journal.proofs.Noted.{counted, done, fallen, judged, shows_same, taken_back}
 use Rattle.pid_journal.proofs.Pairing.{not_both}
@@ -15,12 +16,13 @@ returns-in-Err-clause-honest g c clean = subst g.R.RegistryCalls.showing.is_clea
 
 pub returns-in-Err-clause-obeyed : goal.returns-in-Err-clause-obeyed
 returns-in-Err-clause-obeyed g c clean start h shows is =
+    let journal = kept start h (g.J.JournalFile.safe c.args.self.now.journal) shows.leads in
     let mid = record c.args.self.now { journal = c.append.new.self } in
-    let part = c.in-Err.ensures.appended shows.text shows.safe in
-    let count = counted (g.J.JournalFile.safe c.args.self.now.journal) shows.text c.count-count.result shows.safe c.count-count.ensures in
+    let part = c.in-Err.ensures.appended journal.0 journal.1 in
+    let count = counted (g.J.JournalFile.safe c.args.self.now.journal) journal.0 c.count-count.result journal.1 c.count-count.ensures in
     inr (
       inr refl,
-      taken_back g.R.RegistryCalls g.J.JournalFile start h mid c.take_back-in-Err.new.self shows.text c.args.entry.now (take part.0 c.args.entry.now) (drop part.0 c.args.entry.now) (asks c.args.command) shows.leads is (sym (take-append-drop part.0 c.args.entry.now))
+      taken_back g.R.RegistryCalls g.J.JournalFile start h mid c.take_back-in-Err.new.self journal.0 c.args.entry.now (take part.0 c.args.entry.now) (drop part.0 c.args.entry.now) (asks c.args.command) journal.2 is (sym (take-append-drop part.0 c.args.entry.now))
           (shows_same g.R.RegistryCalls g.J.JournalFile _ _ h c.take_back-in-Err.ensures.same shows.shown) part.1 shows.settled
           (subst (IsCutBack g.J.JournalFile mid c.take_back-in-Err.new.self) (sym count) c.take_back-in-Err.ensures.taken),
     )
@@ -31,12 +33,13 @@ returns-then-not-is_fault-clause-honest g c clean = c.obey-answer.ensures.honest
 
 pub returns-then-not-is_fault-clause-obeyed : goal.returns-then-not-is_fault-clause-obeyed
 returns-then-not-is_fault-clause-obeyed g c clean start h shows is =
+    let journal = kept start h (g.J.JournalFile.safe c.args.self.now.journal) shows.leads in
     let new = record c.args.self.now { registry = c.mark_end.new.registry; journal = c.mark_end.new.journal } in
     elim (c.obey-answer.ensures.obeys (c.mark_end.ensures.honest clean) h shows.shown) [
       | inl told ↦ inl (
         told.0,
-        judged g.R.RegistryCalls g.J.JournalFile start h c.obey-answer.new.self new shows.text c.args.entry.now (asks c.args.command) (g.J.JournalFile.safe c.append.new.self) shows.leads is clean told.1 c.mark_end.ensures.kept
-            (c.in-Ok.ensures.appended shows.text shows.safe) c.mark_end.ensures.marked shows.settled,
+        judged g.R.RegistryCalls g.J.JournalFile start h c.obey-answer.new.self new journal.0 c.args.entry.now (asks c.args.command) (g.J.JournalFile.safe c.append.new.self) journal.2 is clean told.1 c.mark_end.ensures.kept
+            (c.in-Ok.ensures.appended journal.0 journal.1) c.mark_end.ensures.marked shows.settled,
       )
       | inr fault ↦ absurd (c.is_fault.ensures.no c.if-not-is_fault.true fault.0)
     ]
@@ -47,13 +50,14 @@ returns-then-not-is_answering-clause-honest g c clean = c.obey-answer.ensures.ho
 
 pub returns-then-not-is_answering-clause-obeyed : goal.returns-then-not-is_answering-clause-obeyed
 returns-then-not-is_answering-clause-obeyed g c clean start h shows is =
+    let journal = kept start h (g.J.JournalFile.safe c.args.self.now.journal) shows.leads in
     let new = record c.args.self.now { registry = c.is_answering.new.registry; journal = c.append.new.self } in
     let probe = c.is_answering.ensures in
     let fault = c.is_fault.ensures.yes c.if-not-is_fault.false in
     let end = c.obey-answer.ensures.obeys (probe.clean clean) h shows.shown in
     elim (done h (asks c.args.command) c.obey-answer.result (c.judgements_are_outcomes.ensures (views_of h) (asks c.args.command)) fault end) [
       | inl shown ↦ absurd (not_both c.is_answering.result (probe.shown clean h shown).0 c.if-not-is_answering.true)
-      | inr fails ↦ inr (fault, inr (fallen g.R.RegistryCalls g.J.JournalFile start h new shows.text c.args.entry.now (asks c.args.command) shows.leads is (probe.fallen h (after h (asks c.args.command)) fails).1 (c.in-Ok.ensures.appended shows.text shows.safe)))
+      | inr fails ↦ inr (fault, inr (fallen g.R.RegistryCalls g.J.JournalFile start h new journal.0 c.args.entry.now (asks c.args.command) journal.2 is (probe.fallen h (after h (asks c.args.command)) fails).1 (c.in-Ok.ensures.appended journal.0 journal.1)))
     ]
 
 -- it was not obeyed
@@ -62,18 +66,19 @@ returns-else-not-is_answering-clause-honest g c clean = c.obey-answer.ensures.ho
 
 pub returns-else-not-is_answering-clause-obeyed : goal.returns-else-not-is_answering-clause-obeyed
 returns-else-not-is_answering-clause-obeyed g c clean start h shows is =
+    let journal = kept start h (g.J.JournalFile.safe c.args.self.now.journal) shows.leads in
     let mid = record c.args.self.now { registry = c.is_answering.new.registry; journal = c.append.new.self } in
     let same = c.take_back.ensures.same in
     let probe = c.is_answering.ensures in
     let asked = subst g.R.RegistryCalls.showing.is_clean same clean in
     let fault = c.is_fault.ensures.yes c.if-not-is_fault.false in
     let end = c.obey-answer.ensures.obeys (probe.clean asked) h shows.shown in
-    let count = counted (g.J.JournalFile.safe c.args.self.now.journal) shows.text c.count-count.result shows.safe c.count-count.ensures in
+    let count = counted (g.J.JournalFile.safe c.args.self.now.journal) journal.0 c.count-count.result journal.1 c.count-count.ensures in
     elim (done h (asks c.args.command) c.obey-answer.result (c.judgements_are_outcomes.ensures (views_of h) (asks c.args.command)) fault end) [
       | inl shown ↦ inr (
         fault,
-        taken_back g.R.RegistryCalls g.J.JournalFile start h mid c.take_back.new.self shows.text c.args.entry.now c.args.entry.now [] (asks c.args.command) shows.leads is (sym (append-nil c.args.entry.now))
-            (shows_same g.R.RegistryCalls g.J.JournalFile _ _ h same (probe.shown asked h shown).1) (c.in-Ok.ensures.appended shows.text shows.safe) shows.settled
+        taken_back g.R.RegistryCalls g.J.JournalFile start h mid c.take_back.new.self journal.0 c.args.entry.now c.args.entry.now [] (asks c.args.command) journal.2 is (sym (append-nil c.args.entry.now))
+            (shows_same g.R.RegistryCalls g.J.JournalFile _ _ h same (probe.shown asked h shown).1) (c.in-Ok.ensures.appended journal.0 journal.1) shows.settled
             (subst (IsCutBack g.J.JournalFile mid c.take_back.new.self) (sym count) c.take_back.ensures.taken),
       )
       | inr fails ↦ absurd (not_both c.is_answering.result c.if-not-is_answering.false (probe.fallen h (after h (asks c.args.command)) fails).0)
