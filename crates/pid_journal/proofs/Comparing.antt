@@ -18,9 +18,9 @@ use Rattle.pid_journal.specs.declared.open_fault.OpenFault.TheVariants.{Refused,
 use Rattle.pid_journal.specs.declared.placing.Place.{Place}
 use Rattle.pid_journal.specs.declared.placing.Step.TheVariants.{Behind, Nowhere}
 use Rattle.pid_journal.specs.Journals.{counts_held, counts_said}
-use Rattle.pid_journal.specs.Openings.{StandsIn, revision_after, said_since}
+use Rattle.pid_journal.specs.Openings.{StandsIn, revision_after}
 use Rattle.pid_journal.specs.Steps.Faults.{IsRefused}
-use Rattle.pid_journal.specs.Steps.Comparing.{AreOthers, Compares, ComparesOn, FaultsAt, FitsGap, IsNewerThan, IsOlderAt, IsWithin, OfBegun, OfLast, OfSegment, RefusesOther, SkipsLate}
+use Rattle.pid_journal.specs.Steps.Comparing.{AreOthers, Compares, ComparesOn, FaultsAt, FitsGap, IsNewerThan, IsOlderAt, IsWithin, OfBegun, OfLast, OfSegment, RefusesOther, SkipsLate, said_since}
 use Rattle.pid_journal.specs.Steps.Segments.{HasBegun, IsSameFolder, TellsRevision}
 use Rattle.pid_journal.proofs.Places.{none_left, revision_counted}
 use Rattle.pid_journal.proofs.Reading.{said_is_idle}

@@ -40,8 +40,7 @@ counts_said line = if slice_index line 0 == 35 && is_utf8 line then counts_in_fi
 
 -- LINES
 
--- Of lines in turn, each comment that says counts says those of the history so far. What is no comment
--- comes below one (`noted`), with no other command in between.
+-- Lines that say counts say those of the history so far, and what is no comment comes below one (`noted`) of its own.
 abbrev pub AreTrue : History → Bool → List (List ℕ) → Type 0
 AreTrue h noted [] = Unit {0}
 AreTrue h noted (line ∷ lines) = IfSome (counts_said line) (λ counts. counts ≡ counts_held h)
@@ -68,8 +67,7 @@ IsEntry text counts c = (line : List ℕ) × IsNote text counts line × (command
 abbrev pub lines_in : (ℕ → List ℕ) → List ℕ → List (List ℕ)
 lines_in text names = flat_map (λ name. whole_lines (text name)) names
 
--- Each segment begins at the revision that is its name, and its comments are true; the next one
--- goes on where it ends.
+-- Each segment begins at the revision that is its name, its comments are true, and the next one goes on at its end.
 abbrev pub AreSegments : (ℕ → List ℕ) → History → List ℕ → Type 0
 AreSegments text h [] = Unit {0}
 AreSegments text h (name ∷ names) = (revision_of h ≡ name) × AreTrue h false (whole_lines (text name))

@@ -1,6 +1,6 @@
 -- What an opening makes of a registry and of the folder of its journal: choices of this project.
 use Rattle.std.specs.Prelude.{◌≡◌, ◌⊎◌, ◌≤◌, ◌+◌, nat_le, nat_lt, ℕ, Bool, true, false, if◌then◌else◌}
-use Rattle.std.specs.Prelude.{List, [], ◌∷◌, ◌++◌, drop, find, filter_map, fold, Option, Some, option_map}
+use Rattle.std.specs.Prelude.{List, [], ◌∷◌, ◌++◌, drop, find, filter_map, fold, Some, option_map}
 use Rattle.std.specs.Prelude.{unwrap_or, MatchOption, Result, MatchResult, IfErr, IfOk}
 use Rattle.pid_file.specs.WholeLines.{whole_lines}
 use Rattle.pid_moderation.specs.declared.refusal.Refusal.{Refusal}
@@ -11,7 +11,6 @@ use Rattle.pid_script.specs.Replies.{history_after}
 use Rattle.pid_script.specs.ScriptLines.{is_idle_line}
 use Rattle.pid_service_laws.specs.Registries.{Showing}
 use Rattle.pid_service_laws.specs.declared.registry_calls.RegistryCalls.{Ghosts}
-use Rattle.pid_journal.specs.declared.counts.Counts.{Counts}
 use Rattle.pid_journal.specs.declared.file.JournalFile as files
 use Rattle.pid_journal.specs.declared.folder.JournalFolder as folders
 use Rattle.pid_journal.specs.declared.journaled.Journaled.{Journaled}
@@ -25,21 +24,17 @@ use Rattle.pid_journal.specs.Pairs.{AddsMark, PairShows}
 abbrev pub StopsAtOne : {R : Type 0} → Showing R → (History → Type 0) → R → Type 0
 StopsAtOne w Is r = (h : History) × (next : History) × Is h × Is next × (w.shows r h ⊎ w.fails_between r h next)
 
--- the first counts that lines say of a revision that is no earlier than this one
-abbrev pub said_since : ℕ → List (List ℕ) → Option Counts
-said_since revision lines = find (λ k. nat_le revision k.revision) (filter_map counts_said lines)
-
 -- The revision after all lines of a segment that begins at this one, if each command is accepted.
 abbrev pub revision_after : ℕ → List (List ℕ) → ℕ
 revision_after = fold (λ most line. if is_idle_line line
     then unwrap_or (option_map (λ k. k.revision) (counts_said line)) most else most + 1)
 
--- A registry that shows this history has come to a segment, and stands in it: there the first counts that are no
--- older are its own. If there are none, its revision says whether it is past all lines.
+-- A registry that shows this history has come to a segment, and is in it: the first counts that are said there of no
+-- earlier revision are its own. If there are none, its revision says whether it is past all lines.
 abbrev pub StandsIn : (past : Bool) → (ℕ → List ℕ) → (name : ℕ) → History → Type 0
 StandsIn past text name h = let lines = whole_lines (text name) in (name ≤ revision_of h)
-    × MatchOption (said_since (revision_of h) lines) (past ≡ nat_lt (revision_after name lines) (revision_of h))
-    (λ counts. (counts ≡ counts_held h) × (past ≡ false))
+    × MatchOption (find (λ k. nat_le (revision_of h) k.revision) (filter_map counts_said lines))
+    (past ≡ nat_lt (revision_after name lines) (revision_of h)) (λ k. (k ≡ counts_held h) × (past ≡ false))
 
 -- Of segments in turn lines are obeyed, or none: of one in which the registry stands.
 abbrev pub FollowsInTurn : (ℕ → List ℕ) → List ℕ → (h g : History) → Type 0
@@ -56,15 +51,14 @@ module _ {R F J : Type 0} (registry : Ghosts R) (folder : folders.Ghosts F J) (f
   -- If the names of the segments are known, of a registry that shows a history:
   pub record Resumes (text : ℕ → List ℕ) (names : List ℕ) (g : F) (h : History)
       (end : Result (Opened R J) (R × OpenFault)) : Type 0 where
-    -- A journal on whose way that is, is obeyed to its end, and goes on in a new segment or in the last one. Or there
-    -- is a fault; then it is still so.
+    -- A journal on whose way it is, is obeyed to its end, and goes on. Or there is a fault; then it is still so.
     pub obeyed : (start : History) → IsMarked start → AreSegments text start names
-        → let passed = IsPassed start (lines_in text names) in let at = λ (ns : List ℕ). history_after start (lines_in text ns) in
-        passed h → MatchResult end (λ o. (o.gap ≡ false) × (BeginsNew names g (at names) o.registry
-        ⊎ ((folder.names g ≡ Some names) × (front : List ℕ) × (name : ℕ) × (names ≡ front ++ name ∷ [])
-        × PairShows registry file (at front) o.registry (at names))))
+        → let passed = IsPassed start (lines_in text names) in passed h
+        → let at = λ (ns : List ℕ). history_after start (lines_in text ns) in MatchResult end (λ o. (o.gap ≡ false)
+        × (BeginsNew names g (at names) o.registry ⊎ ((folder.names g ≡ Some names) × (front : List ℕ) × (name : ℕ)
+        × (names ≡ front ++ name ∷ []) × PairShows registry file (at front) o.registry (at names))))
         (λ back. ((refusal : Refusal) × (back.1 ≡ Refused refusal)) × StopsAtOne registry.showing passed back.0)
-    -- Whatever it answers, it obeyed no lines but of segments in which the registry was.
+    -- Whatever is answered, no lines were obeyed but of segments in which the registry was.
     pub obeys : MatchResult end
         (λ o. (now : History) × registry.showing.shows o.registry.registry now × FollowsInTurn text names h now)
         (λ back. StopsAtOne registry.showing (FollowsInTurn text names h) back.0)
@@ -72,7 +66,7 @@ module _ {R F J : Type 0} (registry : Ghosts R) (folder : folders.Ghosts F J) (f
     pub gap : IfOk end (λ o. o.gap ≡ true → BeginsNew names g h o.registry)
     -- the first segment has begun
     pub begun : IfOk end (λ o. (name : ℕ) (later : List ℕ) → names ≡ name ∷ later → name ≤ revision_of h)
-    -- If the last one has begun, the registry stands in it, or past it before a gap; in another's it does neither.
+    -- If the last one has begun, the registry is in it, or past it before a gap; with another's it is neither.
     pub compares : (front : List ℕ) (name : ℕ) → names ≡ front ++ name ∷ [] → MatchResult end
         (λ o. (o.gap ≡ true) ⊎ (name ≤ revision_of h) → StandsIn o.gap text name h)
         (λ back. name ≤ revision_of h → ((refusal : Refusal) × (back.1 ≡ Refused refusal))

@@ -28,15 +28,13 @@ module _ {R J : Type 0} (registry : Ghosts R) (file : files.Ghosts J) where
     pub settled : p.failed ≡ false
     pub leads : IsSomeAnd (file.safe p.journal) (λ text. JournalLeads start text h)
 
-  -- It has failed at a command: the registry shows the history before, and the entry could not be cut
-  -- off, of which a part may be left; or the registry itself has failed, and the entry is whole.
+  -- It has failed at a command, whose entry could not be cut off, or is whole where the registry itself has failed.
   pub record PairFailsBetween (start : History) (p : Journaled R J) (h next : History) : Type 0 where
     pub doubt : IsInDoubt start (file.safe p.journal) h next
     pub fails : ((p.failed ≡ true) × registry.showing.shows p.registry h)
         ⊎ ((file.safe p.journal ≡ Some (doubt.text ++ doubt.more)) × registry.showing.fails_between p.registry h next)
 
-  -- The relations by which sessions describe it, wherever its journal begins. Questions, look-ups
-  -- and exports leave the journal as it is.
+  -- The relations by which sessions describe it, wherever its journal begins. A question leaves the journal as it is.
   abbrev pub pair_showing : Showing (Journaled R J)
   pair_showing = record {
     is_clean = λ p. registry.showing.is_clean p.registry;

@@ -45,8 +45,8 @@ pub trait JournalFile {
             → (safe self.new ≡ Some front) ⊎ (safe self.new ≡ Some (front ++ bytes.now)) };
 
     /// Cuts off what comes after so many bytes, among which are all marks, and syncs the file. A mark
-    /// ends with an LF (10) after an LF. So what a reader has seen above a mark stays. After a fault any prefix of what is cut off may
-    /// still be there.
+    /// ends with an LF (10) after an LF. So what a reader has seen above a mark stays. After a fault
+    /// any prefix of what is cut off may still be there.
     fn cut(&mut self, count: u64) -> Result<(), WriteFault>
         requires { (above rest : List ℕ) → safe self.old ≡ Some (above ++ 10 ∷ 10 ∷ rest)
             → length above + 2 ≤ count }

@@ -1,6 +1,6 @@
 -- The counts that a journal says, compared with those of a registry.
 use Rattle.std.specs.Prelude.{◌≡◌, ◌≢◌, ◌⊎◌, ◌<◌, ◌≤◌, ℕ, Bool, true, false, List, [], ◌∷◌, ◌++◌, Option, Some, None}
-use Rattle.std.specs.Prelude.{Result, MatchResult}
+use Rattle.std.specs.Prelude.{find, filter_map, nat_le, Result, MatchResult}
 use Rattle.pid_file.specs.WholeLines.{whole_lines}
 use Rattle.pid_moderation.specs.History.{History}
 use Rattle.pid_moderation.specs.Views.{revision_of}
@@ -14,11 +14,15 @@ use Rattle.pid_journal.specs.declared.placing.Place.{Place}
 use Rattle.pid_journal.specs.declared.placing.LineCounts.{LineCounts}
 use Rattle.pid_journal.specs.declared.placing.Step.{Step}
 use Rattle.pid_journal.specs.declared.placing.Step.TheVariants.{Here, Behind, Nowhere, Unnoted}
-use Rattle.pid_journal.specs.Journals.{counts_held}
-use Rattle.pid_journal.specs.Openings.{FollowsInTurn, StopsAtOne, revision_after, said_since}
+use Rattle.pid_journal.specs.Journals.{counts_held, counts_said}
+use Rattle.pid_journal.specs.Openings.{FollowsInTurn, StopsAtOne, revision_after}
 use Rattle.pid_journal.specs.Steps.Faults.{IsRefused}
 use Rattle.pid_journal.specs.Steps.Places.{IsSaid}
 use Rattle.pid_journal.specs.Steps.Segments.{HasBegun, IsSameFolder, StaysOrMoved}
+
+-- the first counts that lines say of a revision that is no earlier than this one
+abbrev pub said_since : ℕ → List (List ℕ) → Option Counts
+said_since revision lines = find (λ k. nat_le revision k.revision) (filter_map counts_said lines)
 
 -- A registry with these counts is where they are said, or after all lines if none are said that are no older.
 abbrev pub IsWithin : Counts → ℕ → List (List ℕ) → Type 0
