@@ -58,10 +58,10 @@ comes_to schema base text p = (slice_range text p.start p.end, returning schema 
 abbrev made_alone : Schema → List ℕ → List ℕ → Outcome
 made_alone schema text name = (text, Ok None, [], made_by schema name)
 
--- one equation, so that the text is computed once
+-- one equation, so that the text is computed once; and it can be parsed
 abbrev pub OnlyMakes : List ℕ → List ℕ → Checked Parsed → Type 0
 OnlyMakes text name (Ok p) = (schema : Schema) (base : ℕ) → comes_to schema base text p ≡ made_alone schema text name
-OnlyMakes text name (Err e) = Unit {0}
+OnlyMakes text name (Err e) = ⊥
 
 abbrev MakesIfGiven : Checked Command → Type 0
 MakesIfGiven (Ok k) = k ≡ CreateTable
@@ -131,7 +131,7 @@ module _ (text name : List ℕ) where
     where
       go : (r : Checked Parsed) → OnlyMakes text name r → IsMaker text (and_then r (λ p. and_then (planned schema p) (λ plan. Ok (with_command p plan))))
       go (Ok p) h = with_plan schema p (whole schema p h) (planned schema p) (is_planned schema p h)
-      go (Err e) h = tt
+      go (Err e) h = absurd h
 
   listed_maker : (r : Result Compiled CompileError) → IsMaker text r → IsMaker text (if_select r)
   listed_maker (Ok c) h = elim (is_select c.command) as (λ b. IsMaker text (cond b (Ok c) (Err NoSuchTable))) [ true ↦ h | false ↦ tt ]
@@ -144,26 +144,22 @@ module _ (text name : List ℕ) where
     | false ↦ compiled_maker schema only
   ]
 
-  -- a text that can be parsed is understood where the name is free
-  abbrev IsParsed : Checked Parsed → Type 0
-  IsParsed (Ok p) = Unit {0}
-  IsParsed (Err e) = ⊥
-
-  compiled_known : (schema : Schema) → IsParsed (first text) → OnlyMakes text name (first text) → made_by schema name ≡ Ok CreateTable → IsKnownDefinition text (compiled schema text)
+  -- the text is understood where the name is free
+  compiled_known : (schema : Schema) → OnlyMakes text name (first text) → made_by schema name ≡ Ok CreateTable → IsKnownDefinition text (compiled schema text)
   unfolding compiled
-  compiled_known schema parsed only free = go (first text) parsed only
+  compiled_known schema only free = go (first text) only
     where
-      go : (r : Checked Parsed) → IsParsed r → OnlyMakes text name r → IsKnownDefinition text (and_then r (λ p. and_then (planned schema p) (λ plan. Ok (with_command p plan))))
-      go (Ok p) parsed h = with_known schema p (whole schema p h) (planned schema p) (known_planned schema p h free)
-      go (Err e) parsed h = parsed
+      go : (r : Checked Parsed) → OnlyMakes text name r → IsKnownDefinition text (and_then r (λ p. and_then (planned schema p) (λ plan. Ok (with_command p plan))))
+      go (Ok p) h = with_known schema p (whole schema p h) (planned schema p) (known_planned schema p h free)
+      go (Err e) h = h
 
   unlisted : (r other : Result Compiled CompileError) → IsKnownDefinition text r → IsKnownDefinition text (if misses_table r then other else r)
   unlisted (Ok c) other h = h
   unlisted (Err e) other h = absurd h
 
-  pub known : (schema : Schema) → IsParsed (first text) → OnlyMakes text name (first text) → made_by schema name ≡ Ok CreateTable → IsKnownDefinition text (understood schema text)
+  pub known : (schema : Schema) → OnlyMakes text name (first text) → made_by schema name ≡ Ok CreateTable → IsKnownDefinition text (understood schema text)
   unfolding understood
-  known schema parsed only free = unlisted (compiled schema text) (if_select (compiled listing_schema text)) (compiled_known schema parsed only free)
+  known schema only free = unlisted (compiled schema text) (if_select (compiled listing_schema text)) (compiled_known schema only free)
 
 -- ---- the seven texts
 

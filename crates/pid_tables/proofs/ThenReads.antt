@@ -1,11 +1,11 @@
 -- A read after others, outside a transaction.
-use Rattle.std.proofs.Common.{◌≡◌, Ok, Err, Result, IsErrAnd, refl}
+use Rattle.std.proofs.Common.{◌≡◌, ℕ, Some, Ok, Err, Result, IsErrAnd, refl}
 use Rattle.sqlite.specs.Held.{Held, state}
 use Rattle.sqlite_trees.specs.declared.store.Store.{Ghosts}
 use Rattle.pid_moderation.specs.Views.{Views}
 use Rattle.pid_tables.specs.declared.rows.fault.TableFault.{TableFault}
 use Rattle.pid_tables.specs.Rows.Causes.{IsCaused, IsReadable}
-use Rattle.pid_tables.specs.Rows.Clauses.{AtRest, HasCleanDisk, OnlyReads, Reads}
+use Rattle.pid_tables.specs.Rows.Clauses.{AtRest, HasCleanDisk, OnlyReads, Reads, Tells}
 use Rattle.pid_tables.proofs.OfRows.CauseLemmas.{caused_later, passed_on}
 use Rattle.pid_tables.proofs.OfRows.OnlyReading.{reads_then}
 
@@ -20,6 +20,10 @@ fault_first store old new {P = P} e r is one = record {
 pub says_less : {S : Type 0} (store : Ghosts S) (old new : Held S) {X : Type 0} {Says P : Views → X → Type 0} (r : Result X TableFault) → Reads store old new r Says → ((v : Views) (x : X) → Says v x → P v x) → Reads store old new r P
 says_less store old new (Ok x) one so = record { rests = one.rests; told = λ clean v rest. so v x (one.told clean v rest) }
 says_less store old new (Err e) one so = record { rests = one.rests; told = λ clean v rest. one.told clean v rest }
+
+-- a number that the views have
+pub read_number : {S : Type 0} (store : Ghosts S) (old new : Held S) (r : Result ℕ TableFault) (number : Views → ℕ) → OnlyReads store old new → Tells store old new r (λ v n. Some n ≡ Some (number v)) → Reads store old new r (λ v n. n ≡ number v)
+read_number store old new r number rests told = says_less store old new r (record { rests = rests; told = told }) (λ v n says. let same : n ≡ number v = cc in same)
 
 module _ {S : Type 0} (store : Ghosts S) (old mid new : Held S) (one : OnlyReads store old mid) where
   -- it answers a fault, and so does the call

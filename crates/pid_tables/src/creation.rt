@@ -4,7 +4,6 @@ ghost use Rattle.std.specs.Prelude.{
   ℕ,
   [],
   ◌∷◌,
-  ◌++◌,
   false,
   None,
   List,
@@ -13,37 +12,21 @@ ghost use Rattle.std.specs.Prelude.{
   IsTrue,
 };
 ghost use Rattle.sqlite.specs.declared.types.Value.TheVariants.{Text};
-ghost use Rattle.sqlite.specs.Table.{Table};
 ghost use Rattle.pid_tables.specs.Rows.Faults.{IsMemoryOrStore, IsNotNewerSchema};
 ghost use Rattle.pid_tables.specs.Rows.PairRows.{Map};
-ghost use Rattle.pid_tables.specs.Rows.Steps.Shows.{meta_of};
 ghost use Rattle.pid_tables.specs.Rows.TableRows.{number};
-ghost use Rattle.pid_tables.specs.Creation.{table_names};
 ghost use Rattle.pid_tables.specs.Statements.{Carries, new_label_text, registry_statements};
-ghost use Rattle.pid_tables.specs.Steps.MakingTables.{
-  making,
-  Creates,
-  CreatesInTurn,
-  IsMakerOf,
-  HasOnlyMeta,
-  with_label,
-};
+ghost use Rattle.pid_tables.specs.Steps.MakingTables.{HasOnlyMeta, with_label};
 ghost use Rattle.pid_tables.specs.Steps.Making.{
-  AddsLabels,
-  MakesRegistry,
   CarriesInside,
-  all_statements,
-  all_tables,
-  label_statements,
+  FillsRegistry,
+  LabelsAll,
+  MakesAll,
+  MakesOne,
+  MakesThree,
 };
-ghost use Rattle.pid_tables.specs.Rows.Clauses.{HasCleanDisk, is_open, seen};
-ghost use Rattle.pid_tables.specs.Clauses.{
-  IsNameTaken,
-  MakesNew,
-  MakesNothing,
-  WritesAtOnce,
-};
-ghost use Rattle.pid_tables.specs.Steps.Clauses.{Makes, Takes};
+ghost use Rattle.pid_tables.specs.Rows.Clauses.{HasCleanDisk, seen};
+ghost use Rattle.pid_tables.specs.Clauses.{MakesNew, MakesNothing, WritesAtOnce};
 
 use crate::batch::commit;
 use crate::rows::run::write_one;
@@ -83,12 +66,7 @@ const ITEM_SINCE: &str =
         CASCADE, since INTEGER NOT NULL) STRICT";
 
 fn make_table<S: Alter>(tx: &mut Transaction<'_, S>, sql: &str) -> Result<(), TableFault>
-    ensures works { CarriesInside S.Store tx.old tx.new result ((sql.now, []) ∷ []) }
-    ensures made { (before : List Table) (table : Table) → Creates before sql.now table
-        → (making before).tables ≡ before
-        → Makes S.Store tx.old.conn.now tx.new.conn.now result before (before ++ table ∷ []) }
-    ensures takes { (name : List ℕ) → IsMakerOf sql.now name
-        → Takes S.Store tx.old.conn.now tx.new.conn.now result (name ∷ []) }
+    ensures { MakesOne S.Store sql.now tx.old tx.new result }
 {
     write_one(tx, sql, &[])
 }
@@ -100,15 +78,7 @@ fn make_three<S: Alter>(
     second: &str,
     third: &str,
 ) -> Result<(), TableFault>
-    ensures works { CarriesInside S.Store tx.old tx.new result
-        ((first.now, []) ∷ (second.now, []) ∷ (third.now, []) ∷ []) }
-    ensures made { (before : List Table) (a b c : Table)
-        → CreatesInTurn before ((first.now, a) ∷ (second.now, b) ∷ (third.now, c) ∷ [])
-        → Makes S.Store tx.old.conn.now tx.new.conn.now result before
-        (((before ++ a ∷ []) ++ b ∷ []) ++ c ∷ []) }
-    ensures takes { (a b c : List ℕ) → IsMakerOf first.now a → IsMakerOf second.now b
-        → IsMakerOf third.now c
-        → Takes S.Store tx.old.conn.now tx.new.conn.now result (a ∷ b ∷ c ∷ []) }
+    ensures { MakesThree S.Store first.now second.now third.now tx.old tx.new result }
 {
     make_table(tx, first)?;
     make_table(tx, second)?;
@@ -116,9 +86,7 @@ fn make_three<S: Alter>(
 }
 
 fn make_tables<S: Alter>(tx: &mut Transaction<'_, S>) -> Result<(), TableFault>
-    ensures works { CarriesInside S.Store tx.old tx.new result all_statements }
-    ensures made { Makes S.Store tx.old.conn.now tx.new.conn.now result [] all_tables }
-    ensures takes { Takes S.Store tx.old.conn.now tx.new.conn.now result table_names }
+    ensures { MakesAll S.Store tx.old tx.new result }
 {
     make_three(tx, META, ACCOUNT, ITEM)?;
     make_three(tx, SUBMISSION, REMARK, RECEIPT)?;
@@ -149,10 +117,7 @@ fn add_label<S: Alter>(
 }
 
 fn add_labels<S: Alter>(tx: &mut Transaction<'_, S>) -> Result<(), TableFault>
-    ensures works { CarriesInside S.Store tx.old tx.new result label_statements }
-    ensures never { IfErr result IsNotNewerSchema }
-    ensures added { AddsLabels S.Store tx.old.conn.now tx.new.conn.now result (λ _. None)
-        (meta_of (record { items = 0; submissions = 0 }) 0) }
+    ensures { LabelsAll S.Store tx.old tx.new result }
 {
     add_label(tx, "revision", 0)?;
     add_label(tx, "submissions", 0)?;
@@ -161,13 +126,7 @@ fn add_labels<S: Alter>(tx: &mut Transaction<'_, S>) -> Result<(), TableFault>
 }
 
 fn make_registry<S: Alter>(tx: &mut Transaction<'_, S>) -> Result<(), TableFault>
-    ensures works { CarriesInside S.Store tx.old tx.new result registry_statements }
-    ensures filled { MakesRegistry S.Store tx.old.conn.now tx.new.conn.now result }
-    ensures never { HasCleanDisk S.Store tx.new.conn.now → IsTrue tx.old.conn.now.in_transaction
-        → IfErr result IsNotNewerSchema }
-    ensures refused { HasCleanDisk S.Store tx.new.conn.now → IsTrue tx.old.conn.now.in_transaction
-        → (IsTrue (is_open S.Store tx.old.conn.now) → IsNameTaken S.Store tx.old.conn.now)
-        → MatchResult result (λ _. ⊥) IsNotNewerSchema }
+    ensures { FillsRegistry S.Store tx.old tx.new result }
 {
     make_tables(tx)?;
     add_labels(tx)?;

@@ -1,7 +1,6 @@
 //! Moves the tables of a database to schema 2.
 ghost use Rattle.std.specs.Prelude.{
   ◌≡◌,
-  true,
   false,
   IfErr,
   IfOk,
@@ -20,10 +19,8 @@ ghost use Rattle.pid_tables.specs.Rows.Clauses.{
   seen,
 };
 ghost use Rattle.pid_tables.specs.Rows.Faults.{IsMemoryOrStore, IsNotNewerSchema};
-ghost use Rattle.pid_tables.specs.Rows.Shows.{Counts, Numbers, ShowsKeeping};
 ghost use Rattle.pid_tables.specs.declared.rows.version.Version.TheVariants.{One};
 ghost use Rattle.pid_tables.specs.Check.Checking.{Explains};
-ghost use Rattle.pid_tables.specs.Check.Shapes.{HasNoTable};
 ghost use Rattle.pid_tables.specs.Clauses.{
   MigratesJudged,
   MigratesNone,
@@ -31,9 +28,8 @@ ghost use Rattle.pid_tables.specs.Clauses.{
   WritesAtOnce,
 };
 ghost use Rattle.pid_tables.specs.Statements.{Carries, move_statements};
-ghost use Rattle.pid_tables.specs.Steps.Clauses.{FindsShown};
-ghost use Rattle.pid_tables.specs.Bringing.{NamesLatest};
-ghost use Rattle.pid_tables.specs.Steps.Bringing.{IsStanding, is_latest, step_for};
+ghost use Rattle.pid_tables.specs.Steps.Clauses.{FindsLatest, FindsShown};
+ghost use Rattle.pid_tables.specs.Steps.Bringing.{IsStanding, step_for};
 ghost use Rattle.pid_tables.specs.Steps.Found.{BringsFound};
 
 use crate::batch::commit;
@@ -59,20 +55,7 @@ pub enum Step {
 
 // Whether there are tables, and their labels name schema 2. Labels that cannot be read name none.
 fn is_current<S: Alter + Drop>(tables: &mut Tables<S>) -> Result<bool, TableFault>
-    ensures rests { OnlyReads S.Store tables.old.conn tables.new.conn }
-    ensures bare { HasCleanDisk S.Store tables.new.conn
-        → HasNoTable (seen S.Store tables.old.conn).schema
-        → IfOk result (λ is. is ≡ false) }
-    ensures shown { HasCleanDisk S.Store tables.new.conn
-        → (version : Version) (counts : Counts) (numbers : Numbers) (v : Views)
-        → (IsTrue (is_open S.Store tables.old.conn)
-        → ShowsKeeping version counts numbers (seen S.Store tables.old.conn) v)
-        → IfOk result (λ is. is ≡ is_latest version) }
-    ensures named { HasCleanDisk S.Store tables.new.conn
-        → IfOk result (λ is. is ≡ true → NamesLatest (seen S.Store tables.old.conn)) }
-    ensures was_open { HasCleanDisk S.Store tables.new.conn
-        → OnOk result (IsTrue (is_open S.Store tables.old.conn)) }
-    ensures only_store { IfErr result IsMemoryOrStore }
+    ensures { FindsLatest S.Store tables.old.conn tables.new.conn result }
 {
     crate::check::laws::schemas_have_tables(); // proof only
     if !has_some_table(tables)? {

@@ -1,9 +1,5 @@
 //! The tables of schema 1 become those of schema 2, inside a transaction.
-ghost use Rattle.std.specs.Prelude.{IfErr};
-ghost use Rattle.pid_tables.specs.Rows.Faults.{IsNotNewerSchema};
-ghost use Rattle.pid_tables.specs.Statements.{move_statements};
-ghost use Rattle.pid_tables.specs.Steps.Clauses.{Moves};
-ghost use Rattle.pid_tables.specs.Steps.Making.{CarriesInside};
+ghost use Rattle.pid_tables.specs.Steps.Making.{MovesAll};
 
 use crate::rows::run::write_one;
 use crate::rows::{LATEST, TableFault};
@@ -15,9 +11,7 @@ use sqlite::{Alter, Transaction};
 /// tables are of schema 1: if they have a table, a view or an index of the new table's name, it
 /// is refused with `Damaged` or `Store`.
 pub(crate) fn move_tables<S: Alter>(tx: &mut Transaction<'_, S>) -> Result<(), TableFault>
-    ensures works { CarriesInside S.Store tx.old tx.new result move_statements }
-    ensures never { IfErr result IsNotNewerSchema }
-    ensures shows { Moves S.Store tx.old.conn.now tx.new.conn.now result }
+    ensures { MovesAll S.Store tx.old tx.new result }
 {
     write_one(
         tx,

@@ -4,14 +4,13 @@ ghost use Rattle.std.specs.Io.KnownBytes.{Consumes};
 ghost use Rattle.pid_reader.specs.Lines.{lines_of};
 ghost use Rattle.pid_reader.specs.Reading.{entries_of};
 ghost use Rattle.pid_moderation.specs.History.{History, asked};
-ghost use Rattle.pid_moderation.specs.Views.{Views, views_of};
-ghost use Rattle.pid_tables.specs.Rows.Clauses.{AtRest, HasCleanDisk, KeepsCommitted, Within};
-ghost use Rattle.pid_tables.specs.Rows.Shows.{Counts};
+ghost use Rattle.pid_moderation.specs.Views.{views_of};
+ghost use Rattle.pid_tables.specs.Rows.Clauses.{AtRest, HasCleanDisk};
 ghost use Rattle.pid_tables.specs.ImportClauses.{EndsImport, EndsOutside};
-ghost use Rattle.pid_tables.specs.Steps.ImportClauses.{Applies, HoldsPut};
+ghost use Rattle.pid_tables.specs.Steps.ImportClauses.{AppliesFile};
 ghost use Rattle.pid_moderation.specs.Files.{file_reading};
 ghost use Rattle.pid_tables.specs.Importing.{ReadsFile, StopIsNotFailed, TellsReadFault};
-ghost use Rattle.pid_tables.specs.Steps.ImportParts.{IsNext, IsPut, IsStopOf, JudgesFile};
+ghost use Rattle.pid_tables.specs.Steps.ImportParts.{IsPut, IsStopOf, JudgesFile};
 ghost use Rattle.pid_tables.specs.Judging.{WhereOpen};
 ghost use Rattle.pid_tables.specs.Steps.PutFiles.{PutsFile};
 
@@ -120,18 +119,7 @@ fn apply_file<S: Alter>(
     tally: Tally,
     command: &Command,
 ) -> Result<Reply, Stop>
-    ensures same_reference { batch.new.conn.ghost_name ≡ batch.old.conn.ghost_name }
-    ensures clean { HasCleanDisk S.Store batch.new.conn.now
-        → HasCleanDisk S.Store batch.old.conn.now }
-    ensures limit { batch.new.conn.now.step_limit ≡ batch.old.conn.now.step_limit }
-    ensures holds { (c : Counts) (v w : Views) → Within S.Store batch.old.conn.now c v w
-        → KeepsCommitted S.Store batch.new.conn.now v }
-    ensures applied { (h : History) (text : List ℕ) (n : ℕ)
-        → WhereOpen h command.now facts.old items (IsPut h text tally → IsNext facts.old.revision n
-        → HoldsPut S.Store batch.old.conn.now h n (entries_of (lines_of text))
-        → Applies S.Store batch.new.conn.now result h (asked command.now (file_reading text))) }
-    ensures reads { IfErr result (λ e. e ≢ Stop.Body) }
-    ensures alive { IfErr result StopIsNotFailed }
+    ensures { AppliesFile S.Store command.now facts.old items tally batch.old batch.new result }
 {
     laws::texts_read_to_files(); // proof only
     match judge_file(facts, items, tally, command) {

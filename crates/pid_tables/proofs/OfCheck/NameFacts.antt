@@ -7,7 +7,7 @@ use Rattle.std.specs.BTreeSet.{BTreeSet, contains_text, insert_key}
 use Rattle.std.specs.String.{string_cmp}
 use Rattle.std.specs.declared.alloc.Global.{Global}
 use Rattle.std.specs.Cmp.Lexicographic.{nat_list_cmp_total}
-use Rattle.std.proofs.lemmas.Bool.{or_cases, or_left, or_right}
+use Rattle.std.proofs.lemmas.Bool.{false≢true, or_cases, or_left, or_right}
 use Rattle.std.proofs.lemmas.Cmp.{tied_itself}
 use Rattle.sqlite.specs.declared.types.Value.TheVariants.{Text}
 use Rattle.sqlite.specs.Order.{Row, column}
@@ -38,7 +38,7 @@ inserted cmp test alike (x ∷ xs) k = go (cmp k x) refl (inserted cmp test alik
     go Greater is rest = ap (λ b. test x || b) rest ∙ swapped (test x) (test k) (list_any test xs)
 
 pub no_names : (names : BTreeSet (String Global)) → names.keys ≡ [] → AreNamesOf names []
-no_names names none name utf8 = (λ there. absurd (let bad : false ≡ true = sym (ap (list_any (λ k. is_eq (text_cmp name (string_bytes k)))) none) ∙ there in cc), λ it. absurd it.1)
+no_names names none name utf8 = (λ there. absurd (false≢true (sym (ap (list_any (λ k. is_eq (text_cmp name (string_bytes k)))) none) ∙ there)), λ it. absurd it.1)
 
 pub name_skipped : (names : BTreeSet (String Global)) (rows : List Row) (r : Row) → ((t : List ℕ) → column r 0 ≡ Text t → ¬ (IsUtf8 t)) → AreNamesOf names rows → AreNamesOf names (rows ++ r ∷ [])
 name_skipped names rows r none are name utf8 = (
@@ -72,4 +72,4 @@ name_added names next key rows r is keys are name utf8 =
 
 pub on_is_ok : {X E : Type 0} {P : Type 0} (r : Result X E) → is_ok r ≡ true → OnOk r P → P
 on_is_ok (Ok x) h p = p
-on_is_ok (Err e) h p = absurd cc
+on_is_ok (Err e) h p = absurd (false≢true h)

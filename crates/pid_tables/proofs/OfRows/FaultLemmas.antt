@@ -36,6 +36,10 @@ of_store store.Unstorable = tt
 pub moved : (e f : Error) → e ≡ f → IsMemoryOrStore (fault_of_sql f) → IsMemoryOrStore (fault_of_sql e)
 moved e f same h = subst (λ x. IsMemoryOrStore (fault_of_sql x)) (sym same) h
 
+-- a call that was refused so
+pub refused_so : {A : Type 0} (e f : Error) → ◌≡◌ {A = Result A Error} (Err e) (Err f) → IsMemoryOrStore (fault_of_sql f) → IsMemoryOrStore (fault_of_sql e)
+refused_so e f refused h = moved e f (let same : e ≡ f = cc in same) h
+
 never_bad : (r : Result Compiled CompileError) (fault : CompileError) → IsPlain r → r ≡ Err fault → ⊥
 never_bad (Ok c) fault plain e = cc
 never_bad (Err x) fault plain e = plain

@@ -1,9 +1,13 @@
 -- What calls inside a transaction leave.
-use Rattle.std.proofs.Common.{Ok, Err, Result, OnOk, IfOk, IsTrue, sym, subst, arith, ◌∙◌}
+use Rattle.std.proofs.Common.{◌≡◌, ℕ, List, inl, inr, false, Ok, Err, Result, OnOk, IfOk, IsTrue, refl, sym, subst, arith, ◌∙◌}
+use Rattle.std.proofs.lemmas.Bool.{cases_Bool}
+use Rattle.sqlite.proofs.InsideLemmas.{inside_keeps}
 use Rattle.sqlite.proofs.StateLemmas.{survives_then}
+use Rattle.sqlite.specs.Order.{Row}
 use Rattle.sqlite.specs.Tree.{Trees}
-use Rattle.sqlite.specs.State.{State, Survives}
+use Rattle.sqlite.specs.State.{State, Survives, KeepsCommit, ExecutesInside}
 use Rattle.sqlite.specs.State.{HasCleanDisk}
+use Rattle.sqlite.specs.declared.error.Error.{Error}
 use Rattle.pid_moderation.specs.Views.{Views}
 use Rattle.pid_tables.specs.Rows.Shows.{Counts, ShowsCounting, Shows}
 use Rattle.pid_tables.specs.Rows.Leaves.{KeepsCommitted, Within, Written}
@@ -12,6 +16,22 @@ use Rattle.pid_tables.proofs.OfRows.LeaveLemmas.{leaves_on}
 
 pub earlier : {P : Trees → Type 0} (old new : State) → Survives old new P → HasCleanDisk new → HasCleanDisk old
 earlier old new s clean = omega (arith, s.clean)
+
+-- one statement, which outside a transaction is not run
+module _ (sql : List ℕ) (params : Row) (old new : State) (ran : Result ℕ Error) (ended : old.in_transaction ≡ false → new ≡ old) (runs : HasCleanDisk new → IsTrue old.in_transaction → ExecutesInside 0 sql params old new ran) where
+  keeps : HasCleanDisk new → KeepsCommit old new
+  keeps clean = elim (cases_Bool old.in_transaction) [
+    | inl inside ↦ inside_keeps old new 0 false sql params ran (runs clean inside)
+    | inr none ↦ subst (λ s. KeepsCommit old s) (sym (ended none)) (record { was_open = λ opened. opened; committed = λ opened. refl })
+  ]
+
+  pub one_goes : {X E : Type 0} (r : Result X E) → Survives old new (λ _. ⊥) → (HasCleanDisk new → IsTrue old.in_transaction → OnOk r (IsTrue new.is_open × IsTrue new.in_transaction)) → GoesOn old new r
+  one_goes r survives going = record {
+    survives = survives;
+    was_open = λ clean opened. (keeps clean).was_open opened;
+    committed = λ clean inside opened. (keeps clean).committed opened;
+    going = going;
+  }
 
 -- two calls are one
 pub goes_then : {X Y E F : Type 0} (a b c : State) (x : X) (r : Result Y F) → GoesOn {E = E} a b (Ok x) → GoesOn b c r → GoesOn a c r

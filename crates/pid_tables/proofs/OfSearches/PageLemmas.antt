@@ -15,6 +15,14 @@ use Rattle.pid_tables.specs.Lists.Laws.{SubmissionsGoOn, search_below, what_is_l
 use Rattle.pid_tables.proofs.OfLists.FallingLemmas.{standings_count}
 use Rattle.pid_tables.specs.Lists.Steps.SubmissionRows.{next_after}
 
+-- ---- what stands for no number
+
+pub no_number : (n : ℕ) → n ≡ 0 → (n == 0) ≡ true
+no_number n none = ap (λ m. m == 0) none
+
+pub some_number : (n : ℕ) → (n ≡ 0 → ⊥) → (n == 0) ≡ false
+some_number n some = grind (arith, nat_tests, some)
+
 -- ---- the last one of all is the first submission
 
 last_pushed : (d : ℕ) (xs : List Listing) (l : Listing) → last_number d (xs ++ l ∷ []) ≡ l.number
@@ -101,10 +109,10 @@ module _ (v : Views) (search : Search) where
   HasWalked found next = map listed_of found ++ sought_in (search_below search next) v ≡ sought_in search v
 
   -- the next page, as the tables answer it
-  pub page_goes : SubmissionsGoOn → (next searched : ℕ) (page : SubmissionPage) → 1 ≤ searched → submission_page_of page ≡ submissions_of 100 searched (search_below search next) v
+  pub page_goes : SubmissionsGoOn → (next : ℕ) (page : SubmissionPage) → submission_page_of page ≡ submissions_of 100 10000 (search_below search next) v
       → sought_in (search_below search next) v ≡ map listed_of page.submissions.items ++ what_is_left page.before (search_below search next) v
-  page_goes law next searched page some told =
-      law 100 searched (search_below search next) v (omega arith) some
+  page_goes law next page told =
+      law 100 10000 (search_below search next) v (omega arith) (omega arith)
       ∙ ap (λ (p : ListingPage). p.submissions ++ what_is_left p.before (search_below search next) v) (sym told)
 
   left_is : (found new : List Listed) (next below : ℕ) (page : List Listing) → HasWalked found next → map listed_of new ≡ map listed_of found ++ page

@@ -1,14 +1,17 @@
 -- Steps of Clauses: what private clauses say of a transaction.
-use Rattle.std.specs.Prelude.{◌≡◌, Result, IfOk, IsTrue, MatchResult}
+use Rattle.std.specs.Prelude.{◌≡◌, Bool, true, false, Result, OnOk, IfOk, IfErr, IsTrue, MatchResult}
 use Rattle.sqlite_trees.specs.declared.store.Store.{Ghosts}
 use Rattle.pid_moderation.specs.declared.change.Change.{Change}
 use Rattle.pid_moderation.specs.Changes.{changed, FitsViews}
 use Rattle.pid_moderation.specs.Views.{Views}
 use Rattle.pid_tables.specs.declared.rows.fault.TableFault.{TableFault}
-use Rattle.pid_tables.specs.Rows.Clauses.{HasCleanDisk, is_open, seen}
+use Rattle.pid_tables.specs.Rows.Clauses.{HasCleanDisk, OnlyReads, is_open, seen}
 use Rattle.pid_tables.specs.Rows.Faults.{IsMemoryOrStore}
-use Rattle.pid_tables.specs.Rows.Shows.{Counts, Shows, ShowsCounting, ShowsKeeping, numbers_in}
+use Rattle.pid_tables.specs.Rows.Shows.{Counts, Numbers, Shows, ShowsCounting, ShowsKeeping}
+use Rattle.pid_tables.specs.Rows.Shows.{numbers_in}
 use Rattle.pid_tables.specs.Applies.{CountsFit}
+use Rattle.pid_tables.specs.Bringing.{NamesLatest}
+use Rattle.pid_tables.specs.Check.Shapes.{HasNoTable}
 use Rattle.std.specs.Prelude.{ℕ, List, Option}
 use Rattle.sqlite.specs.Held.{Held, state}
 use Rattle.sqlite.specs.Table.{Table}
@@ -30,6 +33,20 @@ module _ {S : Type 0} (store : Ghosts S) where
 
   abbrev pub FindsShown : Held S → Held S → Result (Option Version) TableFault → Type 0
   FindsShown old new result = steps.FindsShown (state store old) (state store new) result
+
+  -- Whether there are tables whose labels name schema 2.
+  pub record FindsLatest (old new : Held S) (result : Result Bool TableFault) : Type 0 where
+    pub rests : OnlyReads store old new
+    pub bare : HasCleanDisk store new → HasNoTable (seen store old).schema
+        → IfOk result (λ is. is ≡ false)
+    pub shown : HasCleanDisk store new
+        → (version : Version) (counts : Counts) (numbers : Numbers) (v : Views)
+        → (IsTrue (is_open store old) → ShowsKeeping version counts numbers (seen store old) v)
+        → IfOk result (λ is. is ≡ steps.is_latest version)
+    pub named : HasCleanDisk store new
+        → IfOk result (λ is. is ≡ true → NamesLatest (seen store old))
+    pub was_open : HasCleanDisk store new → OnOk result (IsTrue (is_open store old))
+    pub only_store : IfErr result IsMemoryOrStore
 
   -- A call in a transaction, which goes on: it makes the views the next ones, and what it answers
   -- is so of those that the transaction showed.

@@ -1,5 +1,6 @@
 -- Steps of Making: the first rows of a new registry.
-use Rattle.std.specs.Prelude.{◌≡◌, ℕ, List, [], ◌∷◌, ◌++◌, codes, Result, IsTrue, MatchResult, OnOk}
+use Rattle.std.specs.Prelude.{◌≡◌, ℕ, List, [], ◌∷◌, ◌++◌, codes, None, Result, IsTrue}
+use Rattle.std.specs.Prelude.{IfErr, MatchResult, OnOk}
 use Rattle.sqlite.specs.Held.{Held, state}
 use Rattle.sqlite.specs.Table.{Table}
 use Rattle.sqlite.specs.declared.transaction.Transaction.{Transaction}
@@ -9,17 +10,21 @@ use Rattle.pid_moderation.specs.History.{new_history}
 use Rattle.pid_moderation.specs.Views.{views_of}
 use Rattle.pid_tables.specs.declared.rows.fault.TableFault.{TableFault}
 use Rattle.pid_tables.specs.Rows.Clauses.{HasCleanDisk, is_open, seen}
-use Rattle.pid_tables.specs.Rows.Faults.{IsMemoryOrStore}
+use Rattle.pid_tables.specs.Rows.Faults.{IsMemoryOrStore, IsNotNewerSchema}
 use Rattle.pid_tables.specs.Rows.PairRows.{Map}
 use Rattle.pid_tables.specs.Rows.Schema as tables
 use Rattle.pid_tables.specs.Rows.Schema.{latest}
 use Rattle.pid_tables.specs.Rows.Shows.{Shows}
 use Rattle.pid_tables.specs.Rows.Steps.Turns.{GoesOn}
 use Rattle.pid_tables.specs.Rows.TableRows.{number}
-use Rattle.pid_tables.specs.Creation.{AreMade}
+use Rattle.pid_tables.specs.Creation.{AreMade, IsNameTaken, table_names}
 use Rattle.pid_tables.specs.Statements as texts
+use Rattle.pid_tables.specs.Rows.Steps.Shows.{meta_of}
 use Rattle.pid_tables.specs.Statements.{Statement, CarriedOut, new_label_text, new_account_text}
-use Rattle.pid_tables.specs.Steps.MakingTables.{HasOnlyMeta}
+use Rattle.pid_tables.specs.Statements.{move_statements, registry_statements}
+use Rattle.pid_tables.specs.Steps.Clauses.{Makes, Moves, Takes}
+use Rattle.pid_tables.specs.Steps.MakingTables.{Creates, CreatesInTurn, HasOnlyMeta, IsMakerOf}
+use Rattle.pid_tables.specs.Steps.MakingTables.{making}
 
 -- all tables
 abbrev pub all_tables : List Table
@@ -75,3 +80,58 @@ module _ {S : Type 0} (store : Ghosts S) where
   MakesRegistry old new result = HasCleanDisk store new → IsTrue old.in_transaction
       → (IsTrue (is_open store old) → AreMade [] (seen store old))
       → MatchResult result (λ _. Shows (seen store new) (views_of new_history)) IsMemoryOrStore
+
+  -- a step that makes one table
+  pub record MakesOne {X : Type 0} (sql : List ℕ) (old new : Transaction S)
+      (result : Result X TableFault) : Type 0 where
+    pub works : CarriesInside old new result ((sql, []) ∷ [])
+    pub made : (before : List Table) (table : Table) → Creates before sql table
+        → (making before).tables ≡ before
+        → Makes store old.conn.now new.conn.now result before (before ++ table ∷ [])
+    pub takes : (name : List ℕ) → IsMakerOf sql name
+        → Takes store old.conn.now new.conn.now result (name ∷ [])
+
+  -- a step that makes three tables in turn
+  pub record MakesThree {X : Type 0} (first second third : List ℕ) (old new : Transaction S)
+      (result : Result X TableFault) : Type 0 where
+    pub works : CarriesInside old new result
+        ((first, []) ∷ (second, []) ∷ (third, []) ∷ [])
+    pub made : (before : List Table) (a b c : Table)
+        → CreatesInTurn before ((first, a) ∷ (second, b) ∷ (third, c) ∷ [])
+        → Makes store old.conn.now new.conn.now result before
+        (((before ++ a ∷ []) ++ b ∷ []) ++ c ∷ [])
+    pub takes : (a b c : List ℕ) → IsMakerOf first a → IsMakerOf second b → IsMakerOf third c
+        → Takes store old.conn.now new.conn.now result (a ∷ b ∷ c ∷ [])
+
+  -- a step that makes all tables
+  pub record MakesAll {X : Type 0} (old new : Transaction S) (result : Result X TableFault)
+      : Type 0 where
+    pub works : CarriesInside old new result all_statements
+    pub made : Makes store old.conn.now new.conn.now result [] all_tables
+    pub takes : Takes store old.conn.now new.conn.now result table_names
+
+  -- a step that adds all labels
+  pub record LabelsAll {X : Type 0} (old new : Transaction S) (result : Result X TableFault)
+      : Type 0 where
+    pub works : CarriesInside old new result label_statements
+    pub never : IfErr result IsNotNewerSchema
+    pub added : AddsLabels old.conn.now new.conn.now result (λ _. None)
+        (meta_of (record { items = 0; submissions = 0 }) 0)
+
+  -- a step that moves the tables of schema 1
+  pub record MovesAll {X : Type 0} (old new : Transaction S) (result : Result X TableFault)
+      : Type 0 where
+    pub works : CarriesInside old new result move_statements
+    pub never : IfErr result IsNotNewerSchema
+    pub shows : Moves store old.conn.now new.conn.now result
+
+  -- the making of a whole registry
+  pub record FillsRegistry {X : Type 0} (old new : Transaction S) (result : Result X TableFault)
+      : Type 0 where
+    pub works : CarriesInside old new result registry_statements
+    pub filled : MakesRegistry old.conn.now new.conn.now result
+    pub never : HasCleanDisk store new.conn.now → IsTrue old.conn.now.in_transaction
+        → IfErr result IsNotNewerSchema
+    pub refused : HasCleanDisk store new.conn.now → IsTrue old.conn.now.in_transaction
+        → (IsTrue (is_open store old.conn.now) → IsNameTaken (state store old.conn.now))
+        → MatchResult result (λ _. ⊥) IsNotNewerSchema

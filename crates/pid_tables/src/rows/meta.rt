@@ -1,8 +1,6 @@
 //! The table of counts and of the revision.
 ghost use Rattle.std.specs.Prelude.{
   ◌≡◌,
-  Some,
-  IsSome,
   IfOk,
   IfErr,
   MatchResult,
@@ -26,14 +24,13 @@ ghost use Rattle.pid_tables.specs.Rows.LabelRows.{
   value_text,
 };
 ghost use Rattle.pid_tables.specs.Rows.Steps.LabelRows.{IsMetaFirst};
-ghost use Rattle.pid_tables.specs.declared.rows.version.Version.TheVariants.{One};
 ghost use Rattle.pid_tables.specs.Rows.Schema.{latest};
-ghost use Rattle.pid_tables.specs.Rows.Shows.{Counts, labels_of, counts_of};
+ghost use Rattle.pid_tables.specs.Rows.Shows.{counts_of};
 ghost use Rattle.pid_tables.specs.Rows.Steps.Shows.{meta_of};
 ghost use Rattle.pid_tables.specs.Rows.Steps.Turns.{recounting};
 ghost use Rattle.pid_tables.specs.Rows.Steps.Writes.{with_revision};
-ghost use Rattle.pid_tables.specs.Rows.Clauses.{HasCleanDisk, OnlyReads, Reads, Tells, seen};
-ghost use Rattle.pid_tables.specs.Rows.Steps.Clauses.{ChangesTo, LeadsTo};
+ghost use Rattle.pid_tables.specs.Rows.Clauses.{HasCleanDisk, Reads, seen};
+ghost use Rattle.pid_tables.specs.Rows.Steps.Clauses.{ChangesTo, LeadsTo, ReadsLabel};
 
 use crate::rows::fault::TableFault;
 use crate::rows::run::{read_inside, read_rows, write_one};
@@ -116,15 +113,7 @@ fn value_rows<S: Alter + Drop>(tables: &mut Tables<S>, label: &str) -> Result<Ve
 
 // The number of one of the three labels that both schemas have.
 fn count<S: Alter + Drop>(tables: &mut Tables<S>, label: &str) -> Result<u32, TableFault>
-    ensures rests { OnlyReads S.Store tables.old.conn tables.new.conn }
-    ensures found { ((c : Counts) → IsSome (labels_of One c 0 label.now))
-        → Tells S.Store tables.old.conn tables.new.conn result
-        (λ v n. Some n ≡ meta_of (counts_of v) v.revision label.now) }
-    ensures shown { HasCleanDisk S.Store tables.new.conn
-        → IfOk result (ShowsNumber (seen S.Store tables.old.conn) label.now) }
-    ensures refused { HasCleanDisk S.Store tables.new.conn
-        → IfErr result (IsDamageOf (ShowsNoNumber (seen S.Store tables.old.conn) label.now)) }
-    ensures never { IfErr result IsNotNewerSchema }
+    ensures { ReadsLabel S.Store label.now tables.old.conn tables.new.conn result }
 {
     let rows = value_rows(tables, label)?;
     match rows.first() {

@@ -1,4 +1,4 @@
-use Rattle.std.proofs.Common.{◌≡◌, Bool, true, false, Ok, IsTrue, refl, sym, rules, ◌∙◌, subst}
+use Rattle.std.proofs.Common.{◌≡◌, Bool, true, false, Ok, IsTrue, refl, sym, ◌∙◌, subst}
 use Rattle.std.proofs.lemmas.Bool.{true≢false}
 use Rattle.sqlite.specs.Held.{state}
 use Rattle.sqlite.specs.State.{HasCleanDisk}
@@ -24,10 +24,10 @@ use Rattle.pid_tables.proofs.creation.create.Goals as goal
 
 -- the connection is what the transaction leaves, which is dropped or committed
 same_undone : (g : Over) (c : goal.After-conn-1 g) → c.drop-batch.new.self.0 ≡ c.conn-1.given.0
-same_undone g c = search rules
+same_undone g c = sym (c.conn-1.given.1 (sym (c.make_registry.ensures.works.same_reference ∙ c.transaction-batch.ensures.same_reference)))
 
 same_ended : (g : Over) (c : goal.After-conn-2-1 g) → c.commit.new.batch.0 ≡ c.conn-2-1.given.0
-same_ended g c = search rules
+same_ended g c = sym (c.conn-2-1.given.1 (sym (c.make_registry.ensures.works.same_reference ∙ c.transaction-batch.ensures.same_reference)))
 
 -- ---- a call fails, and all is given up
 

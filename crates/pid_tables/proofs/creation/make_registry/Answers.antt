@@ -3,7 +3,7 @@ use Rattle.sqlite.specs.Held.{state}
 use Rattle.sqlite.specs.declared.types.Value.TheVariants.{Text}
 use Rattle.pid_moderation.specs.declared.rank.Rank.TheVariants.{Administrator}
 use Rattle.pid_tables.specs.declared.rows.version.Version.TheVariants.{Two}
-use Rattle.pid_tables.specs.Rows.Faults.{IsNotNewerSchema}
+use Rattle.pid_tables.specs.Rows.Faults.{IsMemoryOrStore, IsNotNewerSchema}
 use Rattle.pid_tables.specs.Rows.Schema.{pid_schema}
 use Rattle.pid_tables.specs.Rows.TableRows.{number}
 use Rattle.pid_tables.proofs.OfRows.CauseLemmas.{passed_on, passed_from}
@@ -19,91 +19,83 @@ use Rattle.pid_tables.proofs.MoveLemmas.{goes_fault, goes_fault_after, not_on_ok
 use Rattle.pid_tables.proofs.MetLemmas.{none_met}
 use Rattle.pid_tables.proofs.creation.make_registry.Goals as goal
 
-pub returns-clause-filled : goal.returns-clause-filled
-returns-clause-filled g c clean inside made =
-    let b = state g.S.Store c.make_tables.new.tx.conn.now in
-    let d = state g.S.Store c.add_labels.new.tx.conn.now in
-    let second = earlier d (state g.S.Store c.write_one.new.tx.conn.now) c.write_one.ensures.goes.survives clean in
-    let first = earlier b d c.add_labels.ensures.works.goes.survives second in
-    let one = c.in_ok-make_tables.ensures in
-    let two = c.in_ok-add_labels.ensures in
-    let within = (one.works.goes.going first inside).1 in
-    let has = two.added second within (all_made b.now (one.made first inside made)) in
-    let shown = shows_nothing d.now has in
-    led c.write_one.result (account_added d (state g.S.Store c.write_one.new.tx.conn.now) _ nothing_yet shown (codes "root") Administrator refl)
-    (rw (c.to_sql-name.ensures, c.to_sql-rank.ensures, c.from.ensures, c.number.ensures) at (c.write_one.ensures.runs.ran clean (two.works.goes.going second within).1))
-    (c.write_one.ensures.runs.only_store clean pid_schema (λ opened. shown.schema) (insert_writes (insert_account_is Two)))
-
--- ---- where a name is taken
-
-pub returns-in_err-make_tables-clause-refused : goal.returns-in_err-make_tables-clause-refused
-returns-in_err-make_tables-clause-refused g c clean inside met = passed_on c.from_residual.result _ _ IsNotNewerSchema c.from_residual.ensures.1 (c.in_err-make_tables.ensures.takes clean inside)
-
-pub returns-in_err-add_labels-clause-refused : goal.returns-in_err-add_labels-clause-refused
-returns-in_err-add_labels-clause-refused g c clean inside met =
-    let b = state g.S.Store c.make_tables.new.tx.conn.now in
-    let first = earlier b (state g.S.Store c.add_labels.new.tx.conn.now) c.add_labels.ensures.works.goes.survives clean in
-    let one = c.in_ok-make_tables.ensures in
-    absurd (none_met _ _ (one.takes first inside) (met (one.works.goes.was_open first (one.works.goes.going first inside).0)))
-
-pub returns-clause-refused : goal.returns-clause-refused
-returns-clause-refused g c clean inside met =
-    let b = state g.S.Store c.make_tables.new.tx.conn.now in
-    let d = state g.S.Store c.add_labels.new.tx.conn.now in
-    let second = earlier d (state g.S.Store c.write_one.new.tx.conn.now) c.write_one.ensures.goes.survives clean in
-    let first = earlier b d c.add_labels.ensures.works.goes.survives second in
-    let one = c.in_ok-make_tables.ensures in
-    absurd (none_met _ _ (one.takes first inside) (met (one.works.goes.was_open first (one.works.goes.going first inside).0)))
-
--- ---- no fault tells a later schema
-
-pub returns-in_err-make_tables-clause-never : goal.returns-in_err-make_tables-clause-never
-returns-in_err-make_tables-clause-never g c clean inside = passed_from c.from_residual.result _ IsNotNewerSchema c.from_residual.ensures.1 (c.in_err-make_tables.ensures.takes clean inside)
-
-pub returns-in_err-add_labels-clause-never : goal.returns-in_err-add_labels-clause-never
-returns-in_err-add_labels-clause-never g c clean inside = passed_from c.from_residual-in_err-add_labels.result _ IsNotNewerSchema c.from_residual-in_err-add_labels.ensures.1 c.in_err-add_labels.ensures.never
-
--- ---- what was carried out
-
-pub returns-clause-works : goal.returns-clause-works
-returns-clause-works g c = record {
-  same_reference = c.write_one.ensures.same_reference ∙ (c.add_labels.ensures.works.same_reference ∙ c.make_tables.ensures.works.same_reference);
-  goes =
+pub returns : goal.returns
+returns g c = record {
+  works =
+      record {
+        same_reference = c.write_one.ensures.same_reference ∙ (c.add_labels.ensures.works.same_reference ∙ c.make_tables.ensures.works.same_reference);
+        goes =
+            let b = state g.S.Store c.make_tables.new.tx.conn.now in
+            let e = state g.S.Store c.write_one.new.tx.conn.now in
+            goes_then (state g.S.Store c.args.tx.now.conn.now) b e _ c.write_one.result c.in_ok-make_tables.ensures.works.goes
+            (goes_then b (state g.S.Store c.add_labels.new.tx.conn.now) e _ c.write_one.result c.in_ok-add_labels.ensures.works.goes c.write_one.ensures.goes);
+        carried = λ clean inside.
+            let a = c.args.tx.now.conn.now in
+            let b = c.make_tables.new.tx.conn.now in
+            let d = c.add_labels.new.tx.conn.now in
+            let e = c.write_one.new.tx.conn.now in
+            let second = earlier (state g.S.Store d) (state g.S.Store e) c.write_one.ensures.goes.survives clean in
+            let first = earlier (state g.S.Store b) (state g.S.Store d) c.add_labels.ensures.works.goes.survives second in
+            let one = c.in_ok-make_tables.ensures in
+            let two = c.in_ok-add_labels.ensures in
+            let within = (one.works.goes.going first inside).1 in
+            carried_then g.S.Store (all_statements ++ label_statements) (root_statement ∷ []) a d e c.write_one.result
+            (carried_both g.S.Store all_statements label_statements a b d (one.works.carried first inside) (two.works.carried second within))
+            (carried_one g.S.Store new_account_text (Text (codes "root") ∷ number 3 ∷ []) d e c.write_one.result
+            (rw (c.to_sql-name.ensures, c.to_sql-rank.ensures, c.from.ensures, c.number.ensures) at (c.write_one.ensures.runs.ran clean (two.works.goes.going second within).1)));
+      };
+  filled = λ clean inside made.
       let b = state g.S.Store c.make_tables.new.tx.conn.now in
-      let e = state g.S.Store c.write_one.new.tx.conn.now in
-      goes_then (state g.S.Store c.args.tx.now.conn.now) b e _ c.write_one.result c.in_ok-make_tables.ensures.works.goes
-      (goes_then b (state g.S.Store c.add_labels.new.tx.conn.now) e _ c.write_one.result c.in_ok-add_labels.ensures.works.goes c.write_one.ensures.goes);
-  carried = λ clean inside.
-      let a = c.args.tx.now.conn.now in
-      let b = c.make_tables.new.tx.conn.now in
-      let d = c.add_labels.new.tx.conn.now in
-      let e = c.write_one.new.tx.conn.now in
-      let second = earlier (state g.S.Store d) (state g.S.Store e) c.write_one.ensures.goes.survives clean in
-      let first = earlier (state g.S.Store b) (state g.S.Store d) c.add_labels.ensures.works.goes.survives second in
+      let d = state g.S.Store c.add_labels.new.tx.conn.now in
+      let second = earlier d (state g.S.Store c.write_one.new.tx.conn.now) c.write_one.ensures.goes.survives clean in
+      let first = earlier b d c.add_labels.ensures.works.goes.survives second in
       let one = c.in_ok-make_tables.ensures in
       let two = c.in_ok-add_labels.ensures in
       let within = (one.works.goes.going first inside).1 in
-      carried_then g.S.Store (all_statements ++ label_statements) (root_statement ∷ []) a d e c.write_one.result
-      (carried_both g.S.Store all_statements label_statements a b d (one.works.carried first inside) (two.works.carried second within))
-      (carried_one g.S.Store new_account_text (Text (codes "root") ∷ number 3 ∷ []) d e c.write_one.result
-      (rw (c.to_sql-name.ensures, c.to_sql-rank.ensures, c.from.ensures, c.number.ensures) at (c.write_one.ensures.runs.ran clean (two.works.goes.going second within).1)));
+      let has = two.added second within (all_made b.now (one.made first inside made)) in
+      let shown = shows_nothing d.now has in
+      led c.write_one.result (account_added d (state g.S.Store c.write_one.new.tx.conn.now) _ nothing_yet shown (codes "root") Administrator refl)
+      (rw (c.to_sql-name.ensures, c.to_sql-rank.ensures, c.from.ensures, c.number.ensures) at (c.write_one.ensures.runs.ran clean (two.works.goes.going second within).1))
+      (c.write_one.ensures.runs.only_store clean pid_schema (λ opened. shown.schema) (insert_writes (insert_account_is Two)));
+  never = λ clean inside. c.write_one.ensures.never;
+  refused = λ clean inside met.
+      let b = state g.S.Store c.make_tables.new.tx.conn.now in
+      let d = state g.S.Store c.add_labels.new.tx.conn.now in
+      let second = earlier d (state g.S.Store c.write_one.new.tx.conn.now) c.write_one.ensures.goes.survives clean in
+      let first = earlier b d c.add_labels.ensures.works.goes.survives second in
+      let one = c.in_ok-make_tables.ensures in
+      absurd (none_met _ _ (one.takes first inside) (met (one.works.goes.was_open first (one.works.goes.going first inside).0)));
 }
 
--- ---- what the transaction goes on with
-
-pub returns-in_err-make_tables-clause-works : goal.returns-in_err-make_tables-clause-works
-returns-in_err-make_tables-clause-works g c = record {
-  same_reference = c.make_tables.ensures.works.same_reference;
-  goes =
-      goes_fault (state g.S.Store c.args.tx.now.conn.now) (state g.S.Store c.make_tables.new.tx.conn.now) _ c.from_residual.result c.from_residual.ensures.1 c.in_err-make_tables.ensures.works.goes;
-  carried = λ clean inside. not_on_ok c.from_residual.result _ _ c.from_residual.ensures.1;
+pub returns-in_err-make_tables : goal.returns-in_err-make_tables
+returns-in_err-make_tables g c = record {
+  works =
+      record {
+        same_reference = c.make_tables.ensures.works.same_reference;
+        goes =
+            goes_fault (state g.S.Store c.args.tx.now.conn.now) (state g.S.Store c.make_tables.new.tx.conn.now) _ c.from_residual.result c.from_residual.ensures.1 c.in_err-make_tables.ensures.works.goes;
+        carried = λ clean inside. not_on_ok c.from_residual.result _ _ c.from_residual.ensures.1;
+      };
+  filled = λ clean inside made. passed_on c.from_residual.result _ _ IsMemoryOrStore c.from_residual.ensures.1 (c.in_err-make_tables.ensures.made clean inside made);
+  never = λ clean inside. passed_from c.from_residual.result _ IsNotNewerSchema c.from_residual.ensures.1 (c.in_err-make_tables.ensures.takes clean inside);
+  refused = λ clean inside met. passed_on c.from_residual.result _ _ IsNotNewerSchema c.from_residual.ensures.1 (c.in_err-make_tables.ensures.takes clean inside);
 }
 
-pub returns-in_err-add_labels-clause-works : goal.returns-in_err-add_labels-clause-works
-returns-in_err-add_labels-clause-works g c = record {
-  same_reference = c.add_labels.ensures.works.same_reference ∙ c.make_tables.ensures.works.same_reference;
-  goes =
-      goes_fault_after (state g.S.Store c.args.tx.now.conn.now) (state g.S.Store c.make_tables.new.tx.conn.now) (state g.S.Store c.add_labels.new.tx.conn.now) _ _
-      c.from_residual-in_err-add_labels.result c.from_residual-in_err-add_labels.ensures.1 c.in_ok-make_tables.ensures.works.goes c.in_err-add_labels.ensures.works.goes;
-  carried = λ clean inside. not_on_ok c.from_residual-in_err-add_labels.result _ _ c.from_residual-in_err-add_labels.ensures.1;
+pub returns-in_err-add_labels : goal.returns-in_err-add_labels
+returns-in_err-add_labels g c = record {
+  works =
+      record {
+        same_reference = c.add_labels.ensures.works.same_reference ∙ c.make_tables.ensures.works.same_reference;
+        goes =
+            goes_fault_after (state g.S.Store c.args.tx.now.conn.now) (state g.S.Store c.make_tables.new.tx.conn.now) (state g.S.Store c.add_labels.new.tx.conn.now) _ _
+            c.from_residual-in_err-add_labels.result c.from_residual-in_err-add_labels.ensures.1 c.in_ok-make_tables.ensures.works.goes c.in_err-add_labels.ensures.works.goes;
+        carried = λ clean inside. not_on_ok c.from_residual-in_err-add_labels.result _ _ c.from_residual-in_err-add_labels.ensures.1;
+      };
+  filled = λ clean inside made. let b = state g.S.Store c.make_tables.new.tx.conn.now in let first = earlier b (state g.S.Store c.add_labels.new.tx.conn.now) c.add_labels.ensures.works.goes.survives clean in let one = c.in_ok-make_tables.ensures in passed_on c.from_residual-in_err-add_labels.result _ _ IsMemoryOrStore c.from_residual-in_err-add_labels.ensures.1 (c.in_err-add_labels.ensures.added clean (one.works.goes.going first inside).1 (all_made b.now (one.made first inside made)));
+  never = λ clean inside. passed_from c.from_residual-in_err-add_labels.result _ IsNotNewerSchema c.from_residual-in_err-add_labels.ensures.1 c.in_err-add_labels.ensures.never;
+  refused = λ clean inside met.
+      let b = state g.S.Store c.make_tables.new.tx.conn.now in
+      let first = earlier b (state g.S.Store c.add_labels.new.tx.conn.now) c.add_labels.ensures.works.goes.survives clean in
+      let one = c.in_ok-make_tables.ensures in
+      absurd (none_met _ _ (one.takes first inside) (met (one.works.goes.was_open first (one.works.goes.going first inside).0)));
 }

@@ -5,17 +5,14 @@ use Rattle.pid_tables.proofs.CreateLemmas.{made_one}
 use Rattle.pid_tables.proofs.MetLemmas.{taken}
 use Rattle.pid_tables.proofs.creation.make_table.Goals as goal
 
-pub returns-clause-made : goal.returns-clause-made
-returns-clause-made g c before table it tables =
-    made_one before c.args.sql.now table c.write_one.result (state g.S.Store c.args.tx.now.conn.now) (state g.S.Store c.write_one.new.tx.conn.now) it tables c.write_one.ensures.goes c.write_one.ensures.runs.ran c.write_one.ensures.runs.only_store
-
-pub returns-clause-takes : goal.returns-clause-takes
-returns-clause-takes g c name it clean inside =
-    taken c.args.sql.now name (state g.S.Store c.args.tx.now.conn.now) (state g.S.Store c.write_one.new.tx.conn.now) it c.write_one.result (c.write_one.ensures.runs.ran clean inside) c.write_one.ensures.never
-
-pub returns-clause-works : goal.returns-clause-works
-returns-clause-works g c = record {
-  same_reference = c.write_one.ensures.same_reference;
-  goes = c.write_one.ensures.goes;
-  carried = λ clean inside. carried_one g.S.Store c.args.sql.now [] c.args.tx.now.conn.now c.write_one.new.tx.conn.now c.write_one.result (c.write_one.ensures.runs.ran clean inside);
+pub returns : goal.returns
+returns g c = record {
+  works =
+      record {
+        same_reference = c.write_one.ensures.same_reference;
+        goes = c.write_one.ensures.goes;
+        carried = λ clean inside. carried_one g.S.Store c.args.sql.now [] c.args.tx.now.conn.now c.write_one.new.tx.conn.now c.write_one.result (c.write_one.ensures.runs.ran clean inside);
+      };
+  made = λ before table it tables. made_one before c.args.sql.now table c.write_one.result (state g.S.Store c.args.tx.now.conn.now) (state g.S.Store c.write_one.new.tx.conn.now) it tables c.write_one.ensures.goes c.write_one.ensures.runs.ran c.write_one.ensures.runs.only_store;
+  takes = λ name it clean inside. taken c.args.sql.now name (state g.S.Store c.args.tx.now.conn.now) (state g.S.Store c.write_one.new.tx.conn.now) it c.write_one.result (c.write_one.ensures.runs.ran clean inside) c.write_one.ensures.never;
 }

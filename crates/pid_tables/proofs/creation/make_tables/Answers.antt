@@ -20,86 +20,81 @@ first_made = (meta_creates, refl, (account_creates, refl, (item_creates, refl, t
 next_made : CreatesInTurn (meta ∷ account ∷ item ∷ []) ((create_submission, submission) ∷ (create_remark, remark) ∷ (create_receipt, receipt) ∷ [])
 next_made = (submission_creates, refl, (remark_creates, refl, (receipt_creates, refl, tt)))
 
-pub returns-in_err-make_three-clause-made : goal.returns-in_err-make_three-clause-made
-returns-in_err-make_three-clause-made g c clean inside made = passed_on c.from_residual.result _ _ IsMemoryOrStore c.from_residual.ensures.1 (c.in_err-make_three.ensures.made [] meta account item first_made clean inside made)
+pub returns-in_err-make_three : goal.returns-in_err-make_three
+returns-in_err-make_three g c = record {
+  works =
+      record {
+        same_reference = c.make_three.ensures.works.same_reference;
+        goes =
+            goes_fault (state g.S.Store c.args.tx.now.conn.now) (state g.S.Store c.make_three.new.tx.conn.now) _ c.from_residual.result c.from_residual.ensures.1 c.in_err-make_three.ensures.works.goes;
+        carried = λ clean inside. not_on_ok c.from_residual.result _ _ c.from_residual.ensures.1;
+      };
+  made = λ clean inside made. passed_on c.from_residual.result _ _ IsMemoryOrStore c.from_residual.ensures.1 (c.in_err-make_three.ensures.made [] meta account item first_made clean inside made);
+  takes = λ clean inside. passed_on c.from_residual.result _ _ IsNotNewerSchema c.from_residual.ensures.1 (c.in_err-make_three.ensures.takes (codes "meta") (codes "account") (codes "item") meta_maker account_maker item_maker clean inside);
+}
 
-pub returns-in_err-make_three-2-clause-made : goal.returns-in_err-make_three-2-clause-made
-returns-in_err-make_three-2-clause-made g c clean inside made =
-    let first = earlier (state g.S.Store c.make_three.new.tx.conn.now) (state g.S.Store c.make_three-2.new.tx.conn.now) c.make_three-2.ensures.works.goes.survives clean in
-    let one = c.in_ok-make_three.ensures in
-    passed_on c.from_residual-in_err-make_three-2.result _ _ IsMemoryOrStore c.from_residual-in_err-make_three-2.ensures.1
-    (c.in_err-make_three-2.ensures.made (meta ∷ account ∷ item ∷ []) submission remark receipt next_made clean (one.works.goes.going first inside).1 (λ opened. one.made [] meta account item first_made first inside made))
+pub returns-in_err-make_three-2 : goal.returns-in_err-make_three-2
+returns-in_err-make_three-2 g c = record {
+  works =
+      record {
+        same_reference = c.make_three-2.ensures.works.same_reference ∙ c.make_three.ensures.works.same_reference;
+        goes =
+            goes_fault_after (state g.S.Store c.args.tx.now.conn.now) (state g.S.Store c.make_three.new.tx.conn.now) (state g.S.Store c.make_three-2.new.tx.conn.now) _ _ c.from_residual-in_err-make_three-2.result c.from_residual-in_err-make_three-2.ensures.1 c.in_ok-make_three.ensures.works.goes c.in_err-make_three-2.ensures.works.goes;
+        carried = λ clean inside. not_on_ok c.from_residual-in_err-make_three-2.result _ _ c.from_residual-in_err-make_three-2.ensures.1;
+      };
+  made = λ clean inside made.
+      let first = earlier (state g.S.Store c.make_three.new.tx.conn.now) (state g.S.Store c.make_three-2.new.tx.conn.now) c.make_three-2.ensures.works.goes.survives clean in
+      let one = c.in_ok-make_three.ensures in
+      passed_on c.from_residual-in_err-make_three-2.result _ _ IsMemoryOrStore c.from_residual-in_err-make_three-2.ensures.1
+      (c.in_err-make_three-2.ensures.made (meta ∷ account ∷ item ∷ []) submission remark receipt next_made clean (one.works.goes.going first inside).1 (λ opened. one.made [] meta account item first_made first inside made));
+  takes = λ clean inside.
+      let first = earlier (state g.S.Store c.make_three.new.tx.conn.now) (state g.S.Store c.make_three-2.new.tx.conn.now) c.make_three-2.ensures.works.goes.survives clean in
+      passed_on c.from_residual-in_err-make_three-2.result _ _ IsNotNewerSchema c.from_residual-in_err-make_three-2.ensures.1 (c.in_err-make_three-2.ensures.takes (codes "submission") (codes "remark") (codes "receipt") submission_maker remark_maker receipt_maker clean (c.in_ok-make_three.ensures.works.goes.going first inside).1);
+}
 
-pub returns-clause-made : goal.returns-clause-made
-returns-clause-made g c clean inside made =
-    let second = earlier (state g.S.Store c.make_three-2.new.tx.conn.now) (state g.S.Store c.make_table.new.tx.conn.now) c.make_table.ensures.works.goes.survives clean in
-    let first = earlier (state g.S.Store c.make_three.new.tx.conn.now) (state g.S.Store c.make_three-2.new.tx.conn.now) c.make_three-2.ensures.works.goes.survives second in
-    let one = c.in_ok-make_three.ensures in
-    let two = c.in_ok-make_three-2.ensures in
-    let within = (one.works.goes.going first inside).1 in
-    c.make_table.ensures.made (meta ∷ account ∷ item ∷ submission ∷ remark ∷ receipt ∷ []) item_since item_since_creates refl clean (two.works.goes.going second within).1
-    (λ opened. two.made (meta ∷ account ∷ item ∷ []) submission remark receipt next_made second within (λ opened. one.made [] meta account item first_made first inside made))
-
-pub returns-in_err-make_three-clause-takes : goal.returns-in_err-make_three-clause-takes
-returns-in_err-make_three-clause-takes g c clean inside = passed_on c.from_residual.result _ _ IsNotNewerSchema c.from_residual.ensures.1 (c.in_err-make_three.ensures.takes (codes "meta") (codes "account") (codes "item") meta_maker account_maker item_maker clean inside)
-
-pub returns-in_err-make_three-2-clause-takes : goal.returns-in_err-make_three-2-clause-takes
-returns-in_err-make_three-2-clause-takes g c clean inside =
-    let first = earlier (state g.S.Store c.make_three.new.tx.conn.now) (state g.S.Store c.make_three-2.new.tx.conn.now) c.make_three-2.ensures.works.goes.survives clean in
-    passed_on c.from_residual-in_err-make_three-2.result _ _ IsNotNewerSchema c.from_residual-in_err-make_three-2.ensures.1 (c.in_err-make_three-2.ensures.takes (codes "submission") (codes "remark") (codes "receipt") submission_maker remark_maker receipt_maker clean (c.in_ok-make_three.ensures.works.goes.going first inside).1)
-
-pub returns-clause-takes : goal.returns-clause-takes
-returns-clause-takes g c clean inside =
-    let a = state g.S.Store c.args.tx.now.conn.now in
-    let b = state g.S.Store c.make_three.new.tx.conn.now in
-    let d = state g.S.Store c.make_three-2.new.tx.conn.now in
-    let e = state g.S.Store c.make_table.new.tx.conn.now in
-    let second = earlier d e c.make_table.ensures.works.goes.survives clean in
-    let first = earlier b d c.make_three-2.ensures.works.goes.survives second in
-    let one = c.in_ok-make_three.ensures in
-    let two = c.in_ok-make_three-2.ensures in
-    let within = (one.works.goes.going first inside).1 in
-    took_then (codes "meta" ∷ codes "account" ∷ codes "item" ∷ codes "submission" ∷ codes "remark" ∷ codes "receipt" ∷ []) (codes "item_since" ∷ []) a.now.schema d.now.schema e.now.schema
-    (took_both (codes "meta" ∷ codes "account" ∷ codes "item" ∷ []) (codes "submission" ∷ codes "remark" ∷ codes "receipt" ∷ []) a.now.schema b.now.schema d.now.schema (one.takes (codes "meta") (codes "account") (codes "item") meta_maker account_maker item_maker first inside) (two.takes (codes "submission") (codes "remark") (codes "receipt") submission_maker remark_maker receipt_maker second within))
-    c.make_table.result (c.make_table.ensures.takes (codes "item_since") item_since_maker clean (two.works.goes.going second within).1)
-
-pub returns-clause-works : goal.returns-clause-works
-returns-clause-works g c = record {
-  same_reference = c.make_table.ensures.works.same_reference ∙ (c.make_three-2.ensures.works.same_reference ∙ c.make_three.ensures.works.same_reference);
-  goes =
-      let a = state g.S.Store c.make_three.new.tx.conn.now in
-      let end = state g.S.Store c.make_table.new.tx.conn.now in
-      goes_then (state g.S.Store c.args.tx.now.conn.now) a end _ c.make_table.result c.in_ok-make_three.ensures.works.goes
-      (goes_then a (state g.S.Store c.make_three-2.new.tx.conn.now) end _ c.make_table.result c.in_ok-make_three-2.ensures.works.goes c.make_table.ensures.works.goes);
-  carried = λ clean inside.
-      let a = c.args.tx.now.conn.now in
-      let b = c.make_three.new.tx.conn.now in
-      let d = c.make_three-2.new.tx.conn.now in
-      let e = c.make_table.new.tx.conn.now in
-      let second = earlier (state g.S.Store d) (state g.S.Store e) c.make_table.ensures.works.goes.survives clean in
-      let first = earlier (state g.S.Store b) (state g.S.Store d) c.make_three-2.ensures.works.goes.survives second in
+pub returns : goal.returns
+returns g c = record {
+  works =
+      record {
+        same_reference = c.make_table.ensures.works.same_reference ∙ (c.make_three-2.ensures.works.same_reference ∙ c.make_three.ensures.works.same_reference);
+        goes =
+            let a = state g.S.Store c.make_three.new.tx.conn.now in
+            let end = state g.S.Store c.make_table.new.tx.conn.now in
+            goes_then (state g.S.Store c.args.tx.now.conn.now) a end _ c.make_table.result c.in_ok-make_three.ensures.works.goes
+            (goes_then a (state g.S.Store c.make_three-2.new.tx.conn.now) end _ c.make_table.result c.in_ok-make_three-2.ensures.works.goes c.make_table.ensures.works.goes);
+        carried = λ clean inside.
+            let a = c.args.tx.now.conn.now in
+            let b = c.make_three.new.tx.conn.now in
+            let d = c.make_three-2.new.tx.conn.now in
+            let e = c.make_table.new.tx.conn.now in
+            let second = earlier (state g.S.Store d) (state g.S.Store e) c.make_table.ensures.works.goes.survives clean in
+            let first = earlier (state g.S.Store b) (state g.S.Store d) c.make_three-2.ensures.works.goes.survives second in
+            let one = c.in_ok-make_three.ensures in
+            let two = c.in_ok-make_three-2.ensures in
+            let within = (one.works.goes.going first inside).1 in
+            carried_then g.S.Store (first_statements ++ rest_statements) ((item_since_text, []) ∷ []) a d e c.make_table.result
+            (carried_both g.S.Store first_statements rest_statements a b d (one.works.carried first inside) (two.works.carried second within))
+            (c.make_table.ensures.works.carried clean (two.works.goes.going second within).1);
+      };
+  made = λ clean inside made.
+      let second = earlier (state g.S.Store c.make_three-2.new.tx.conn.now) (state g.S.Store c.make_table.new.tx.conn.now) c.make_table.ensures.works.goes.survives clean in
+      let first = earlier (state g.S.Store c.make_three.new.tx.conn.now) (state g.S.Store c.make_three-2.new.tx.conn.now) c.make_three-2.ensures.works.goes.survives second in
       let one = c.in_ok-make_three.ensures in
       let two = c.in_ok-make_three-2.ensures in
       let within = (one.works.goes.going first inside).1 in
-      carried_then g.S.Store (first_statements ++ rest_statements) ((item_since_text, []) ∷ []) a d e c.make_table.result
-      (carried_both g.S.Store first_statements rest_statements a b d (one.works.carried first inside) (two.works.carried second within))
-      (c.make_table.ensures.works.carried clean (two.works.goes.going second within).1);
-}
-
--- ---- what the transaction goes on with
-
-pub returns-in_err-make_three-clause-works : goal.returns-in_err-make_three-clause-works
-returns-in_err-make_three-clause-works g c = record {
-  same_reference = c.make_three.ensures.works.same_reference;
-  goes =
-      goes_fault (state g.S.Store c.args.tx.now.conn.now) (state g.S.Store c.make_three.new.tx.conn.now) _ c.from_residual.result c.from_residual.ensures.1 c.in_err-make_three.ensures.works.goes;
-  carried = λ clean inside. not_on_ok c.from_residual.result _ _ c.from_residual.ensures.1;
-}
-
-pub returns-in_err-make_three-2-clause-works : goal.returns-in_err-make_three-2-clause-works
-returns-in_err-make_three-2-clause-works g c = record {
-  same_reference = c.make_three-2.ensures.works.same_reference ∙ c.make_three.ensures.works.same_reference;
-  goes =
-      goes_fault_after (state g.S.Store c.args.tx.now.conn.now) (state g.S.Store c.make_three.new.tx.conn.now) (state g.S.Store c.make_three-2.new.tx.conn.now) _ _ c.from_residual-in_err-make_three-2.result c.from_residual-in_err-make_three-2.ensures.1 c.in_ok-make_three.ensures.works.goes c.in_err-make_three-2.ensures.works.goes;
-  carried = λ clean inside. not_on_ok c.from_residual-in_err-make_three-2.result _ _ c.from_residual-in_err-make_three-2.ensures.1;
+      c.make_table.ensures.made (meta ∷ account ∷ item ∷ submission ∷ remark ∷ receipt ∷ []) item_since item_since_creates refl clean (two.works.goes.going second within).1
+      (λ opened. two.made (meta ∷ account ∷ item ∷ []) submission remark receipt next_made second within (λ opened. one.made [] meta account item first_made first inside made));
+  takes = λ clean inside.
+      let a = state g.S.Store c.args.tx.now.conn.now in
+      let b = state g.S.Store c.make_three.new.tx.conn.now in
+      let d = state g.S.Store c.make_three-2.new.tx.conn.now in
+      let e = state g.S.Store c.make_table.new.tx.conn.now in
+      let second = earlier d e c.make_table.ensures.works.goes.survives clean in
+      let first = earlier b d c.make_three-2.ensures.works.goes.survives second in
+      let one = c.in_ok-make_three.ensures in
+      let two = c.in_ok-make_three-2.ensures in
+      let within = (one.works.goes.going first inside).1 in
+      took_then (codes "meta" ∷ codes "account" ∷ codes "item" ∷ codes "submission" ∷ codes "remark" ∷ codes "receipt" ∷ []) (codes "item_since" ∷ []) a.now.schema d.now.schema e.now.schema
+      (took_both (codes "meta" ∷ codes "account" ∷ codes "item" ∷ []) (codes "submission" ∷ codes "remark" ∷ codes "receipt" ∷ []) a.now.schema b.now.schema d.now.schema (one.takes (codes "meta") (codes "account") (codes "item") meta_maker account_maker item_maker first inside) (two.takes (codes "submission") (codes "remark") (codes "receipt") submission_maker remark_maker receipt_maker second within))
+      c.make_table.result (c.make_table.ensures.takes (codes "item_since") item_since_maker clean (two.works.goes.going second within).1);
 }

@@ -1,4 +1,4 @@
-use Rattle.std.proofs.Common.{◌≡◌, true, Ok, OnOk, OnErr, refl, rules, sym, subst}
+use Rattle.std.proofs.Common.{◌≡◌, true, Ok, OnOk, OnErr, refl, sym, subst, ◌∙◌}
 use Rattle.sqlite.specs.Held.{state}
 use Rattle.sqlite.specs.State.{HasCleanDisk}
 use Rattle.sqlite.proofs.StateLemmas.{clean_if_open}
@@ -20,10 +20,10 @@ use Rattle.pid_tables.proofs.migration.move_up.Goals as goal
 
 -- the connection is what the transaction leaves, which is dropped or committed
 same_undone : (g : Over) (c : goal.After-conn-1 g) → c.drop-batch.new.self.0 ≡ c.conn-1.given.0
-same_undone g c = search rules
+same_undone g c = sym (c.conn-1.given.1 (sym (c.move_tables.ensures.works.same_reference ∙ c.transaction-batch.ensures.same_reference)))
 
 same_ended : (g : Over) (c : goal.After-conn-2-1 g) → c.commit.new.batch.0 ≡ c.conn-2-1.given.0
-same_ended g c = search rules
+same_ended g c = sym (c.conn-2-1.given.1 (sym (c.move_tables.ensures.works.same_reference ∙ c.transaction-batch.ensures.same_reference)))
 
 pub returns-clause-moved : goal.returns-clause-moved
 returns-clause-moved g c v rest =

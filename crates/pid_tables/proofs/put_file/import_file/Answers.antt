@@ -1,4 +1,4 @@
-use Rattle.std.proofs.Common.{◌≡◌, false, Ok, Err, rules, refl, subst, sym, ap, ◌∙◌}
+use Rattle.std.proofs.Common.{◌≡◌, false, Ok, Err, refl, subst, sym, ap, ◌∙◌}
 use Rattle.sqlite.specs.Held.{state}
 use Rattle.sqlite.specs.State.{HasCleanDisk}
 use Rattle.pid_moderation.specs.History.{asked}
@@ -20,28 +20,25 @@ same_unput : (g : Over) (c : goal.After-stop_of g) → c.roll_back.new.batch.0 �
 same_unput g c =
     let read = c.put_file.ensures.puts in
     let name : c.put_file.new.batch.conn.ghost_name ≡ c.begin-batch.result.conn.ghost_name = put_name g.S.Store c.saturating_add-revision.result c.put_file.result _ read.0 c.begin-batch.result c.put_file.new.batch read.2 in
-    search rules
+    sym (c.conn-1.given.1 (sym (name ∙ c.begin-batch.ensures.same_reference)))
 
 same_unapplied : (g : Over) (c : goal.After-conn-in-Err-apply_file-1 g) → c.roll_back-in-Err-apply_file.new.batch.0 ≡ c.conn-in-Err-apply_file-1.given.0
 same_unapplied g c =
     let read = c.put_file.ensures.puts in
     let name : c.put_file.new.batch.conn.ghost_name ≡ c.begin-batch.result.conn.ghost_name = put_name g.S.Store c.saturating_add-revision.result c.put_file.result _ read.0 c.begin-batch.result c.put_file.new.batch read.2 in
-    let named : c.apply_file.new.batch.conn.ghost_name ≡ c.put_file.new.batch.conn.ghost_name = c.apply_file.ensures.same_reference in
-    search rules
+    sym (c.conn-in-Err-apply_file-1.given.1 (sym (c.apply_file.ensures.same_reference ∙ (name ∙ c.begin-batch.ensures.same_reference))))
 
 same_kept : (g : Over) (c : goal.In-Ok-commit g) → c.commit.new.batch.0 ≡ c.conn-in-Ok-apply_file-1.given.0
 same_kept g c =
     let read = c.put_file.ensures.puts in
     let name : c.put_file.new.batch.conn.ghost_name ≡ c.begin-batch.result.conn.ghost_name = put_name g.S.Store c.saturating_add-revision.result c.put_file.result _ read.0 c.begin-batch.result c.put_file.new.batch read.2 in
-    let named : c.apply_file.new.batch.conn.ghost_name ≡ c.put_file.new.batch.conn.ghost_name = c.apply_file.ensures.same_reference in
-    search rules
+    sym (c.conn-in-Ok-apply_file-1.given.1 (sym (c.apply_file.ensures.same_reference ∙ (name ∙ c.begin-batch.ensures.same_reference))))
 
 same_unkept : (g : Over) (c : goal.After-refusal_of g) → c.commit.new.batch.0 ≡ c.conn-in-Ok-apply_file-1.given.0
 same_unkept g c =
     let read = c.put_file.ensures.puts in
     let name : c.put_file.new.batch.conn.ghost_name ≡ c.begin-batch.result.conn.ghost_name = put_name g.S.Store c.saturating_add-revision.result c.put_file.result _ read.0 c.begin-batch.result c.put_file.new.batch read.2 in
-    let named : c.apply_file.new.batch.conn.ghost_name ≡ c.put_file.new.batch.conn.ghost_name = c.apply_file.ensures.same_reference in
-    search rules
+    sym (c.conn-in-Ok-apply_file-1.given.1 (sym (c.apply_file.ensures.same_reference ∙ (name ∙ c.begin-batch.ensures.same_reference))))
 
 -- ---- the file was not put, the import was not applied, or it was committed
 

@@ -1,5 +1,6 @@
 -- Steps of Clauses: what private clauses say of one statement, and of calls in a transaction.
-use Rattle.std.specs.Prelude.{◌≡◌, ℕ, List, Result, Vec, Ok, OnOk, IfOk, IfErr, IsTrue}
+use Rattle.std.specs.Prelude.{◌≡◌, ℕ, List, Result, Vec, Ok, Some, IsSome, OnOk, IfOk, IfErr}
+use Rattle.std.specs.Prelude.{IsTrue}
 use Rattle.std.specs.declared.alloc.Global.{Global}
 use Rattle.sqlite.specs.Given.{IsPlain}
 use Rattle.sqlite.specs.Held.{Held, state}
@@ -11,11 +12,16 @@ use Rattle.sqlite_trees.specs.declared.store.Store.{Ghosts}
 use Rattle.pid_moderation.specs.Views.{Views}
 use Rattle.pid_tables.specs.declared.rows.fault.TableFault.{TableFault}
 use Rattle.pid_tables.specs.Rows.Faults.{IsMemoryOrStore, IsNotNewerSchema}
+use Rattle.pid_tables.specs.Rows.LabelRows.{IsDamageOf, ShowsNumber, ShowsNoNumber}
+use Rattle.pid_tables.specs.Rows.Shows.{Counts, counts_of, labels_of}
+use Rattle.pid_tables.specs.Rows.Steps.Shows.{meta_of}
 use Rattle.pid_tables.specs.Rows.Steps.Turns.{Turn, changing}
 use Rattle.pid_tables.specs.Rows.Steps.Queries.{IsQuery, IsWriteAs}
 use Rattle.sqlite.specs.State as states
 use Rattle.pid_tables.specs.Rows.Steps.Turns as turns
-use Rattle.pid_tables.specs.Rows.Clauses.{Executes, HasCleanDisk, IsCaused, is_open, seen}
+use Rattle.pid_tables.specs.Rows.Clauses.{Executes, HasCleanDisk, IsCaused, OnlyReads, Tells}
+use Rattle.pid_tables.specs.Rows.Clauses.{is_open, seen}
+use Rattle.pid_tables.specs.declared.rows.version.Version.TheVariants.{One}
 
 module _ {S : Type 0} (store : Ghosts S) where
   abbrev pub Shown : List ℕ → Row → Held S → Held S → List Row → Type 0
@@ -77,3 +83,14 @@ module _ {S : Type 0} (store : Ghosts S) where
   abbrev pub ChangesTo : {X : Type 0} → Transaction S → Transaction S → Result X TableFault
       → (Views → Type 0) → (Views → Views) → Type 0
   ChangesTo old new result IsFor next = LeadsTo old new result (changing IsFor next)
+
+  -- The number under a label, which the views have if both schemas have the label.
+  pub record ReadsLabel (label : List ℕ) (old new : Held S) (result : Result ℕ TableFault)
+      : Type 0 where
+    pub rests : OnlyReads store old new
+    pub found : ((c : Counts) → IsSome (labels_of One c 0 label))
+        → Tells store old new result (λ v n. Some n ≡ meta_of (counts_of v) v.revision label)
+    pub shown : HasCleanDisk store new → IfOk result (ShowsNumber (seen store old) label)
+    pub refused : HasCleanDisk store new
+        → IfErr result (IsDamageOf (ShowsNoNumber (seen store old) label))
+    pub never : IfErr result IsNotNewerSchema

@@ -1,4 +1,4 @@
-use Rattle.std.proofs.Common.{◌≡◌, [], refl, rules, sym, ap, subst, ◌∙◌}
+use Rattle.std.proofs.Common.{◌≡◌, [], refl, sym, ap, subst, ◌∙◌}
 use Rattle.std.proofs.lemmas.Result.{err_from_is_err_and}
 use Rattle.sqlite.specs.State.{HasCleanDisk}
 use Rattle.sqlite.specs.Held.{state}
@@ -15,16 +15,16 @@ use Rattle.pid_tables.proofs.check.read.fold_rows.Goals as goal
 -- ---- the rows are given up, and the connection is what they leave
 
 same_at_fault : (g : Over) (c : goal.After-tables-in_err-row-2-1 g) → c.next.follows.lender-at-none.conn.now ≡ c.tables-in_err-row-1.given.0
-same_at_fault g c = search rules
+same_at_fault g c = sym c.drop-rows.ensures ∙ sym (c.tables-in_err-row-1.given.1 (sym (c.next.follows.holds-at-none.same_reference ∙ (c.rows.invariant.1 ∙ c.in_ok-rows.ensures.same_reference))))
 
 same_at_end : (g : Over) (c : goal.After-tables-in_default-2-1 g) → c.next.follows.lender-at-none.conn.now ≡ c.tables-in_default-1.given.0
-same_at_end g c = search rules
+same_at_end g c = sym c.drop-rows-in_default.ensures ∙ sym (c.tables-in_default-1.given.1 (sym (c.next.follows.holds-at-none.same_reference ∙ (c.rows.invariant.1 ∙ c.in_ok-rows.ensures.same_reference))))
 
 same_unkept : (g : Over) (c : goal.After-tables-in_err-keep-2-1 g) → c.next.follows.lender-at-none.conn.now ≡ c.tables-in_err-keep-1.given.0
-same_unkept g c = search rules
+same_unkept g c = sym c.drop-rows-in_err-keep.ensures ∙ sym (c.tables-in_err-keep-1.given.1 (sym (c.next.follows.holds-at-none.same_reference ∙ (c.rows.invariant.1 ∙ c.in_ok-rows.ensures.same_reference))))
 
 same_last : (g : Over) (c : goal.After-tables-3-1 g) → c.rows.rows.conn.now ≡ c.tables-2-1.given.0
-same_last g c = search rules
+same_last g c = sym c.drop-rows-2.ensures ∙ sym (c.tables-2-1.given.1 (sym (c.rows.invariant.1 ∙ c.in_ok-rows.ensures.same_reference)))
 
 pub returns-in_err-rows : goal.returns-in_err-rows
 returns-in_err-rows g c = record {

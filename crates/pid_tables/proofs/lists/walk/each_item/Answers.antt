@@ -1,4 +1,4 @@
-use Rattle.std.proofs.Common.{[], IfErr, arith, refl, sym, ap, subst, ◌≡◌, ◌∙◌, Err, rules, take, drop, take-append-drop}
+use Rattle.std.proofs.Common.{[], IfErr, arith, refl, sym, ap, subst, ◌≡◌, ◌∙◌, Err, take, drop, take-append-drop}
 use Rattle.std.proofs.lemmas.Result.{err_from_is_err_and}
 use Rattle.sqlite.specs.State.{HasCleanDisk}
 use Rattle.sqlite.specs.Held.{state}
@@ -14,16 +14,16 @@ use Rattle.pid_tables.proofs.lists.walk.each_item.Goals as goal
 -- ---- the rows are given up, and the connection is what they leave
 
 same_at_fault : (g : Over) (c : goal.After-conn-in_err-row-1 g) → c.next.follows.lender-at-none.conn.now ≡ c.conn-in_err-row-1.given.0
-same_at_fault g c = search rules
+same_at_fault g c = sym c.drop-rows.ensures ∙ sym (c.conn-in_err-row-1.given.1 (sym (c.next.follows.holds-at-none.same_reference ∙ (c.rows.invariant.1 ∙ c.in_ok-rows.ensures.same_reference))))
 
 same_at_end : (g : Over) (c : goal.After-conn-in_default-1 g) → c.next.follows.lender-at-none.conn.now ≡ c.conn-in_default-1.given.0
-same_at_end g c = search rules
+same_at_end g c = sym c.drop-rows-in_default.ensures ∙ sym (c.conn-in_default-1.given.1 (sym (c.next.follows.holds-at-none.same_reference ∙ (c.rows.invariant.1 ∙ c.in_ok-rows.ensures.same_reference))))
 
 same_untaken : (g : Over) (c : goal.After-conn-in_err-hand_on-1 g) → c.next.follows.lender-at-none.conn.now ≡ c.conn-in_err-hand_on-1.given.0
-same_untaken g c = search rules
+same_untaken g c = sym c.drop-rows-in_err-hand_on.ensures ∙ sym (c.conn-in_err-hand_on-1.given.1 (sym (c.next.follows.holds-at-none.same_reference ∙ (c.rows.invariant.1 ∙ c.in_ok-rows.ensures.same_reference))))
 
 same_last : (g : Over) (c : goal.After-conn-2-1 g) → c.rows.rows.conn.now ≡ c.conn-2-1.given.0
-same_last g c = search rules
+same_last g c = sym c.drop-rows-2.ensures ∙ sym (c.conn-2-1.given.1 (sym (c.rows.invariant.1 ∙ c.in_ok-rows.ensures.same_reference)))
 
 pub returns-in_err-rows-clause-rests : goal.returns-in_err-rows-clause-rests
 returns-in_err-rows-clause-rests g c =

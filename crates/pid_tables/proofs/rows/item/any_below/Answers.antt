@@ -1,4 +1,4 @@
-use Rattle.std.proofs.Common.{◌≡◌, ◌∙◌, ap, length, rules}
+use Rattle.std.proofs.Common.{◌≡◌, ◌∙◌, ap, length}
 use Rattle.std.specs.Prelude.{not, ◌==◌}
 use Rattle.std.specs.Vec.{vec_len}
 use Rattle.sqlite.specs.Held.{state}
@@ -23,7 +23,7 @@ returns g c = record {
       let rows = c.in_ok-rows.rows.items in
       let found = rows_at_rest g.S.Store c.args.tables.now.conn v select_between _ rows (AreViews v × IsFirstWithin low high v.items rows) rest (λ mid shows h. (shows.views, between_found _ mid (counts_of v) v shows low high rows h))
       (rw (c.as_slice.ensures.value, c.as_slice-2.ensures.value) at (c.in_ok-rows.ensures.shown clean)) in
-      let many : vec_len c.in_ok-rows.rows ≡ length rows = search rules in
+      let many : vec_len c.in_ok-rows.rows ≡ length rows = c.in_ok-rows.rows.ok.0 in
       (found.0, ap not (c.is_empty.ensures ∙ ap (λ n. n == 0) many) ∙ rows_within low high v.items rows found.1 ∙ (λ i. holds_between (c.in_ok-range.ensures.low i) (c.in_ok-range.ensures.high i) v.items));
 }
 

@@ -1,10 +1,11 @@
-use Rattle.std.proofs.Common.{rules, ◌∙◌, sym, subst, IfErr}
+use Rattle.std.proofs.Common.{◌∙◌, sym, subst, IfErr}
 use Rattle.std.proofs.lemmas.Result.{err_from_is_err_and}
 use Rattle.sqlite.specs.Values.{bound}
 use Rattle.pid_tables.proofs.OfRows.ReadLemmas.{shown_passes, fails_keeping}
 use Rattle.pid_tables.specs.Rows.Faults.{IsMemoryOrStore, IsNotNewerSchema}
 use Rattle.sqlite.specs.Held.{state}
 use Rattle.pid_tables.specs.Rows.Causes.{IsCaused}
+use Rattle.pid_tables.proofs.MoveLemmas.{not_on_ok}
 use Rattle.pid_tables.proofs.OfRows.CauseLemmas.{caused, no_value}
 use Rattle.pid_tables.proofs.OfRows.FaultLemmas.{only_store, not_later}
 use Rattle.pid_tables.proofs.rows.run.read_inside.Goals as goal
@@ -18,7 +19,7 @@ returns-in_err-query_all g c = record {
         survives = c.query_all.ensures.survives;
         was_open = λ clean opened. (fails_keeping c.args.sql.now (bound c.args.params.now) _ _ _ (fails clean) opened).0;
         committed = λ clean inside opened. (fails_keeping c.args.sql.now (bound c.args.params.now) _ _ _ (fails clean) opened).1;
-        going = search rules;
+        going = λ clean inside. not_on_ok c.from_residual.result _ _ c.from_residual.ensures.1;
       };
   shown = λ clean. no_value c.from_residual.result _ _ c.from_residual.ensures.1;
   faults =

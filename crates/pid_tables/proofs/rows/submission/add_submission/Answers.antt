@@ -1,7 +1,11 @@
-use Rattle.std.proofs.Common.{rules, ◌∙◌}
+use Rattle.std.proofs.Common.{refl, rules, ◌∙◌}
 use Rattle.sqlite.specs.Held.{state}
 use Rattle.pid_tables.specs.declared.rows.version.Version.TheVariants.{Two}
 use Rattle.pid_tables.specs.Rows.Schema.{pid_schema}
+use Rattle.pid_tables.specs.declared.rows.fault.TableFault.TheVariants.{Memory}
+use Rattle.pid_tables.specs.Rows.Faults.{IsMemoryOrStore}
+use Rattle.pid_tables.proofs.MoveLemmas.{goes_nowhere}
+use Rattle.pid_tables.proofs.OfRows.CauseLemmas.{passed_on}
 use Rattle.pid_tables.proofs.OfRows.KeyTexts.{insert_submission_is}
 use Rattle.pid_tables.proofs.OfRows.WriteFaults.{led, insert_writes}
 use Rattle.pid_tables.proofs.OfRows.WriteRows.{submission_added}
@@ -18,4 +22,11 @@ returns g c = record {
       led c.write_one.result (submission_added old new counts v shows (record { author = c.args.author.now; path = c.args.path; proposal = c.args.proposal.now; note = c.args.note.now }) (search rules) c.args.number fits)
       (rw (c.to_sql-number.ensures, c.to_sql-author.ensures, c.to_sql-path.ensures, c.to_sql-form.ensures, c.to_sql-name.ensures, c.to_sql-note.ensures, c.as_str.ensures.text, c.as_str-3.ensures.text, c.form_and_name-form.ensures.form, c.form_and_name-form.ensures.name, text) at (c.write_one.ensures.runs.ran clean inside))
       (c.write_one.ensures.runs.only_store clean pid_schema (λ opened. shows.schema) (insert_writes (insert_submission_is Two)));
+}
+
+pub returns-in_err-text : goal.returns-in_err-text
+returns-in_err-text g c = record {
+  same_reference = refl;
+  goes = goes_nowhere (state g.S.Store c.args.tx.now.conn.now) Memory c.from_residual.result c.from_residual.ensures.1;
+  shows = λ clean inside counts v shows fits. passed_on c.from_residual.result Memory _ IsMemoryOrStore c.from_residual.ensures.1 tt;
 }

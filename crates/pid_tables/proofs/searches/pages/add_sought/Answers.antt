@@ -1,4 +1,4 @@
-use Rattle.std.proofs.Common.{◌≡◌, ◌∷◌, [], Some, Option, List, ℕ, true, false, rules, sym, ◌∙◌}
+use Rattle.std.proofs.Common.{◌≡◌, ◌∷◌, [], Some, Option, List, ℕ, true, false, sym, ◌∙◌}
 use Rattle.std.specs.Option.{option_copied}
 use Rattle.sqlite.specs.Held.{state}
 use Rattle.pid_file.specs.declared.path.Path.{Path}
@@ -21,7 +21,7 @@ returns-in-None g c = record {
 
 pub returns-then-not-is_of : goal.returns-then-not-is_of
 returns-then-not-is_of g c =
-    let off : c.is_of.result ≡ false = search rules in
+    let off : c.is_of.result ≡ false = c.if-not-is_of.true in
     record {
       rests = c.in_ok-standing.ensures.rests;
       told = λ clean v rest.
@@ -33,7 +33,7 @@ returns-then-not-is_of g c =
 
 pub returns-in-Ok : goal.returns-in-Ok
 returns-in-Ok g c =
-    let of_it : c.is_of.result ≡ true = search rules in
+    let of_it : c.is_of.result ≡ true = c.if-not-is_of.false in
     let one = c.in_ok-standing.ensures in
     let two = c.in-Ok.ensures in
     record {

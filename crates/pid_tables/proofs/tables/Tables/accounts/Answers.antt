@@ -1,4 +1,4 @@
-use Rattle.std.proofs.Common.{◌≡◌, length, rules, sym, subst}
+use Rattle.std.proofs.Common.{◌≡◌, length, sym, subst, ◌∙◌}
 use Rattle.sqlite.specs.Held.{state}
 use Rattle.pid_tables.specs.declared.rows.version.Version.TheVariants.{Two}
 use Rattle.pid_tables.specs.Rows.Accounts.{HasAccounts}
@@ -16,7 +16,7 @@ returns g c = record {
   told = λ clean v rest.
       let rows = c.in_ok-rows.rows.items in
       let found = rows_at_rest g.S.Store c.args.self.now.conn v select_accounts _ rows (HasAccounts v (length rows)) rest (λ mid shows h. accounts_found _ mid (counts_of v) v shows rows h) (c.in_ok-rows.ensures.shown clean) in
-      let is : c.len.result ≡ length rows = search rules in
+      let is : c.len.result ≡ length rows = c.len.ensures ∙ c.in_ok-rows.rows.ok.0 in
       subst (λ n. HasAccounts v n) (sym is) found;
 }
 

@@ -1,4 +1,4 @@
-use Rattle.std.proofs.Common.{◌≡◌, ◌<◌, ◌*◌, ◌+◌, length, rules, arith, true, ap, ◌∙◌}
+use Rattle.std.proofs.Common.{◌≡◌, ◌<◌, ◌*◌, ◌+◌, length, arith, true, ap, subst, ◌∙◌}
 use Rattle.std.proofs.lemmas.List.{length-map}
 use Rattle.sqlite.specs.Held.{state}
 use Rattle.pid_tables.specs.Rows.Causes.{IsCaused, IsReadable}
@@ -13,7 +13,7 @@ loop-time-preserved g c =
     let one = c.in_ok-rows.ensures in
     let before = c.loop-time.invariant in
     let on : c.add_rows.result ≡ true = c.if-not-add_rows.false in
-    let full : length c.in_ok-rows.rows.items < 1000 → ⊥ = search rules in
+    let full : length c.in_ok-rows.rows.items < 1000 → ⊥ = λ low. let high = c.if-len-lt-ROWS.false in omega (arith, low, high, c.len.ensures, c.in_ok-rows.rows.ok.0) in
     let next : (c.loop-time.time + 1) * 1000 ≡ c.loop-time.time * 1000 + 1000 = omega arith in (
       reads_then _ _ _ before.0 one.rests,
       λ clean v rest.
@@ -28,7 +28,7 @@ returns-then-len-lt-ROWS g c =
     let one = c.in_ok-rows.ensures in
     let before = c.loop-time.invariant in
     let on : c.add_rows.result ≡ true = c.if-not-add_rows.false in
-    let short : length c.in_ok-rows.rows.items < 1000 = search rules in
+    let short : length c.in_ok-rows.rows.items < 1000 = subst (λ n. n < 1000) (c.len.ensures ∙ c.in_ok-rows.rows.ok.0) c.if-len-lt-ROWS.true in
     record {
       rests = reads_then _ _ _ before.0 one.rests;
       told = λ clean v rest.

@@ -13,6 +13,17 @@ use Rattle.pid_tables.specs.Steps.Bringing.{Named}
 use Rattle.pid_tables.proofs.StandLemmas.{seen_still, only_store_explains, told_before, as_standing, none_found, none_within, good_found}
 use Rattle.pid_tables.proofs.tables.Tables.schema_found.Goals as goal
 
+-- ---- it only reads
+
+pub returns-in_err-is_current-clause-rests : goal.returns-in_err-is_current-clause-rests
+returns-in_err-is_current-clause-rests g c = c.is_current.ensures.rests
+
+pub returns-then-branch-clause-rests : goal.returns-then-branch-clause-rests
+returns-then-branch-clause-rests g c = c.is_current.ensures.rests
+
+pub returns-clause-rests : goal.returns-clause-rests
+returns-clause-rests g c = reads_then _ _ _ c.is_current.ensures.rests c.check.ensures.rests
+
 -- ---- all reads see the same
 
 pub returns-in_err-is_current-clause-same : goal.returns-in_err-is_current-clause-same
