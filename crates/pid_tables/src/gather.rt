@@ -6,7 +6,6 @@ ghost use Rattle.pid_moderation.specs.FactsOfViews.{
   RemarksOf,
   facts_at,
   named as named_in,
-  known as known_of,
   looked_at,
   with_item_facts,
 };
@@ -17,12 +16,12 @@ ghost use Rattle.pid_tables.specs.Rows.Clauses.{Reads};
 ghost use Rattle.pid_tables.specs.Steps.Gathering.{bare};
 
 use crate::rows::TableFault;
-use crate::rows::item::{has_children, item_name};
+use crate::rows::item::has_children;
 use crate::rows::receipt::kept_reply;
 use crate::rows::remark::remark_count;
 use crate::rows::submission::standing;
 use crate::tables::Tables;
-use pid_ident::{Account, Key, Name, Path, PathText};
+use pid_ident::{Account, Key, Name, Path};
 use pid_moderation::{Facts, NamedSubmission, Rank, Reply, Rows};
 use sqlite::Alter;
 use std::alloc::Global;
@@ -70,32 +69,6 @@ struct ItemPlace {
 }
 
 impl<S: Alter + Drop> Tables<S> {
-    // What is known of every command of the account under the key.
-    fn known_facts(
-        &mut self,
-        account: &Account,
-        key: &Option<Key>,
-    ) -> Result<KnownFacts, TableFault>
-        ensures { Reads S.Store self.old.conn self.new.conn result
-            (λ v known. bare known ≡ known_of v account.now key.now) }
-    {
-        let rank = self.rank(account.as_str())?;
-        let revision = self.revision()?;
-        let Some(key) = key else {
-            return Ok(KnownFacts {
-                rank,
-                kept: None,
-                revision,
-            });
-        };
-        let kept = kept_reply(self, account.as_str(), key.as_str())?;
-        Ok(KnownFacts {
-            rank,
-            kept,
-            revision,
-        })
-    }
-
     fn submission_facts(
         &mut self,
         alloc: Global,
@@ -113,15 +86,6 @@ impl<S: Alter + Drop> Tables<S> {
             })),
             Err(fault) => Err(fault),
         }
-    }
-
-    /// The name of the item at a path.
-    pub fn item(&mut self, alloc: Global, path: &Path) -> Result<Option<Name>, TableFault>
-        ensures { Reads S.Store self.old.conn self.new.conn result
-            (λ v name. name ≡ name_at (path_text path.now) v.items) }
-    {
-        let path = path.path_text(alloc)?;
-        item_name(self, alloc, path.as_str())
     }
 
     fn has_parent(&mut self, alloc: Global, path: Path) -> Result<bool, TableFault>
@@ -263,7 +227,18 @@ impl<S: Alter + Drop> Tables<S> {
             (λ v facts. AllItems v.items → HoldsParents v.items
             → facts ≡ facts_at v account.now key.now (wanted_by rows.entry)) }
     {
-        let known = self.known_facts(account, key)?;
+        let rank = self.rank(account.as_str())?;
+        let revision = self.revision()?;
+        let kept = match key {
+            Some(key) => kept_reply(self, account.as_str(), key.as_str()),
+            None => Ok(None),
+        };
+        let kept = kept?;
+        let known = KnownFacts {
+            rank,
+            kept,
+            revision,
+        };
         self.with_rows(alloc, rows, known)
     }
 }

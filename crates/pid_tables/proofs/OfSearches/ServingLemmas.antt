@@ -23,7 +23,10 @@ use Rattle.pid_tables.proofs.OfLists.PendingLists.{in_standing}
 use Rattle.pid_tables.proofs.OfRows.TurnLemmas.{permuted}
 use Rattle.pid_tables.specs.Searches.Steps.Among.{IsServing, LeavesOutNone, are_below, found_among, search_for}
 use Rattle.pid_tables.specs.Searches.Filings.{filed_as, filings_in}
-use Rattle.pid_tables.specs.Searches.KeptNumbers.{numbers_named}
+use Rattle.pid_tables.specs.Searches.KeptNumbers.{AreKeptFor, HoldsNumbers, numbers_named}
+use Rattle.pid_tables.specs.declared.searches.numbers.Kept.{Kept}
+use Rattle.pid_tables.specs.declared.searches.numbers.Searches.{Searches}
+use Rattle.pid_tables.specs.declared.searches.numbers.Searches.TheVariants as searches
 
 -- ---- they rise
 
@@ -209,3 +212,7 @@ module _ (v : Views) (before : ℕ) where
       ∙ swapped sought (is_before before) (listings (standings_at (reverse numbers) v))
       ∙ ap (filter (is_before before)) serving.whole
       ∙ swapped (is_before before) sought (all_listings v)
+
+-- numbers that are kept
+pub kept_numbers : (numbers : Searches) (kept : Kept) (v : Views) → numbers ≡ searches.Kept kept → HoldsNumbers numbers v → AreKeptFor kept (filings_in v)
+kept_numbers numbers kept v is holds = subst (λ n. HoldsNumbers n v) is holds

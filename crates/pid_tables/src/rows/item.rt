@@ -109,21 +109,21 @@ pub fn remove_item<S: Alter>(tx: &mut Transaction<'_, S>, path: &str) -> Result<
     write_one(tx, "DELETE FROM item WHERE path = ?1", &[path])
 }
 
-/// The name of the item at a path, or none if the path has no item or the text is no path's.
-/// A stored text that is no name is `Damaged`.
-pub fn item_name<S: Alter + Drop>(
-    tables: &mut Tables<S>,
-    alloc: Global,
-    path: &str,
-) -> Result<Option<Name>, TableFault>
-    ensures { Reads S.Store tables.old.conn tables.new.conn result
-        (λ v name. name ≡ item_at path.now v.items) }
-{
-    let key = path.to_sql();
-    let rows = read_rows(tables, "SELECT name FROM item WHERE path = ?1", &[key])?;
-    match rows.first() {
-        Some(row) => Ok(Some(name_at(row, alloc, 0)?)),
-        None => Ok(None),
+impl<S: Alter + Drop> Tables<S> {
+    /// The name of the item at a path. A stored text that is no name is `Damaged`.
+    pub fn item(&mut self, alloc: Global, path: &Path) -> Result<Option<Name>, TableFault>
+        ensures { Reads S.Store self.old.conn self.new.conn result
+            (λ v name. name ≡ item_at (path_text path.now) v.items) }
+    {
+        let text = path.path_text(alloc)?;
+        let key = text.as_str().to_sql();
+        let rows = read_rows(self, "SELECT name FROM item WHERE path = ?1", &[key]);
+        drop(text);
+        let rows = rows?;
+        match rows.first() {
+            Some(row) => Ok(Some(name_at(row, alloc, 0)?)),
+            None => Ok(None),
+        }
     }
 }
 

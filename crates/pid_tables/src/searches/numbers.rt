@@ -161,21 +161,25 @@ fn by_author<'a>(kept: &'a Kept, author: Option<&Account>) -> Option<&'a [u32]>
 }
 
 /// Numbers that leave out no submission for the path and of the author that are named, below a
-/// number: of both lists the shorter. None if neither is named, or if memory runs out.
+/// number: of both lists the shorter. None if neither is named, if the numbers are not kept, or if
+/// memory runs out.
 pub(crate) fn list_below<'a>(
-    kept: &'a Kept,
+    numbers: &'a Searches,
     alloc: Global,
     path: Option<&Path>,
     author: Option<&Account>,
     before: u32,
 ) -> Option<&'a [u32]>
-    ensures { IfSome result (λ numbers. (v : Views) → AreKeptFor kept.now (filings_in v)
+    ensures { IfSome result (λ list. (v : Views) → HoldsNumbers numbers.now v
         → LeavesOutNone (record {
           path = option_copied path.entry;
           author = option_copied author.entry;
           before = before;
-        }) numbers.now v) }
+        }) list.now v) }
 {
+    let Searches::Kept(kept) = numbers else {
+        return None;
+    };
     let one = by_path(kept, alloc, path);
     let other = by_author(kept, author);
     match one {

@@ -15,7 +15,6 @@ ghost use Rattle.std.specs.Option.{option_copied};
 ghost use Rattle.pid_moderation.specs.SubmissionPages.{
   is_wanted,
   listed_of,
-  sought_in,
   submission_page_of,
   submissions_of,
 };
@@ -128,31 +127,6 @@ fn sought_at<S: Alter + Drop>(
 }
 
 impl<S: Alter + Drop> Tables<S> {
-    // The submissions of a page.
-    fn found_by(
-        &mut self,
-        alloc: Global,
-        numbers: &Searches,
-        path: Option<&Path>,
-        author: Option<&Account>,
-        before: u32,
-    ) -> Result<Vec<Listed>, TableFault>
-        ensures { Reads S.Store self.old.conn self.new.conn result
-            (λ v page. HoldsNumbers numbers.now v → map listed_of page.items ≡ take PAGE (sought_in (record {
-              path = option_copied path.entry;
-              author = option_copied author.entry;
-              before = before;
-            }) v)) }
-    {
-        let Searches::Kept(kept) = numbers else {
-            return self.walk(alloc, path, author, before);
-        };
-        match list_below(kept, alloc, path, author, before) {
-            Some(list) => sought_at(self, alloc, list, path, author),
-            None => self.walk(alloc, path, author, before),
-        }
-    }
-
     /// A page of the submissions for a path and of an author, where one is named, the latest first,
     /// whose numbers are below `before`, of which 0 stands for no bound: by the numbers that are kept,
     /// and if none are, by a walk over all submissions.
@@ -171,7 +145,11 @@ impl<S: Alter + Drop> Tables<S> {
               before = before;
             }) v) }
     {
-        let submissions = self.found_by(alloc, numbers, path, author, before)?;
+        let found = match list_below(numbers, alloc, path, author, before) {
+            Some(list) => sought_at(self, alloc, list, path, author),
+            None => self.walk(alloc, path, author, before),
+        };
+        let submissions = found?;
         let before = next_of(submissions.as_slice(), 0);
         Ok(SubmissionPage {
             before,
