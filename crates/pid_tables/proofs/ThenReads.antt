@@ -4,6 +4,7 @@ use Rattle.sqlite.specs.Held.{Held, state}
 use Rattle.sqlite_trees.specs.declared.store.Store.{Ghosts}
 use Rattle.pid_moderation.specs.Views.{Views}
 use Rattle.pid_tables.specs.declared.rows.fault.TableFault.{TableFault}
+use Rattle.pid_tables.specs.declared.rows.fault.TableFault.TheVariants.{Memory}
 use Rattle.pid_tables.specs.Rows.Causes.{IsCaused, IsReadable}
 use Rattle.pid_tables.specs.Rows.Clauses.{AtRest, HasCleanDisk, OnlyReads, Reads, Tells}
 use Rattle.pid_tables.proofs.OfRows.CauseLemmas.{caused_later, passed_on}
@@ -14,6 +15,13 @@ pub fault_first : {S : Type 0} (store : Ghosts S) (old new : Held S) {X Y : Type
 fault_first store old new {P = P} e r is one = record {
   rests = one.rests;
   told = λ clean v rest. passed_on r e (P v) (λ fault. IsReadable v → IsCaused (state store old) (state store new) fault) is (one.told clean v rest);
+}
+
+-- there is no memory after reads, and so the call answers
+pub no_memory : {S : Type 0} (store : Ghosts S) (old new : Held S) {X : Type 0} {P : Views → X → Type 0} (r : Result X TableFault) → IsErrAnd r (λ y. y ≡ Memory) → OnlyReads store old new → Reads store old new r P
+no_memory store old new {P = P} r is rests = record {
+  rests = rests;
+  told = λ clean v rest. passed_on r Memory (P v) (λ fault. IsReadable v → IsCaused (state store old) (state store new) fault) is (λ readable. tt);
 }
 
 -- a read that says more says this too

@@ -87,6 +87,13 @@ name_word row good = (good.1, name_utf8 good.1 good.2.1, good.4)
 text_same : (s t : List ℕ) → Text s ≡ Text t → s ≡ t
 text_same s t e = cc
 
+-- the item of a row is that of its columns
+pub shown_is : (row : Row) (item : Item) → row ≡ item_shown item → (path name : List ℕ) → column row 0 ≡ Text path → column row 1 ≡ Text name → (path, name) ≡ item
+shown_is row item is path name first second =
+    let one : path ≡ item.0 = text_same path item.0 (sym first ∙ ap (λ (r : Row). column r 0) is) in
+    let two : name ≡ item.1 = text_same name item.1 (sym second ∙ ap (λ (r : Row). column r 1) is) in
+    λ i. (one i, two i)
+
 -- a text that breaks the rule of names is that of no item
 pub name_broken : (row : Row) → ReadsAsItem row → (name : List ℕ) → column row 1 ≡ Text name → is_name name ≡ false → ⊥
 name_broken row good name at broken =

@@ -1,13 +1,9 @@
 //! All items, one at a time.
 ghost use Rattle.std.specs.Prelude.{◌≡◌, false, IfErr};
-ghost use Rattle.pid_reader.specs.LookingBack.{Item};
-ghost use Rattle.pid_reader.specs.Numbered.{Numbered};
-ghost use Rattle.pid_tables.specs.Rows.Steps.Answers.{item_shown};
 ghost use Rattle.pid_tables.specs.Rows.Causes.{IsReadable};
 ghost use Rattle.pid_tables.specs.Rows.Steps.Faults.{fault_of_sql};
-ghost use Rattle.pid_tables.specs.Rows.Steps.Unread.{ReadsAsItem};
 ghost use Rattle.pid_tables.specs.Lists.EachItem.{Walks, WalksSome, placed_from};
-ghost use Rattle.pid_tables.specs.Lists.Steps.EachItem.{TakesOne, IsUnreadEnd};
+ghost use Rattle.pid_tables.specs.Lists.Steps.EachItem.{HandsAll, HandsOn};
 ghost use Rattle.pid_tables.specs.declared.lists.walk.EachEnd.TheVariants as ends;
 ghost use Rattle.pid_tables.specs.Rows.Clauses.{OnlyReads};
 ghost use Rattle.pid_tables.specs.Lists.Clauses.{IsCausedEnd, OverViews};
@@ -44,10 +40,7 @@ impl<F> From<SqlError> for EachEnd<F> {
 
 // Hands the item of a row to the sink.
 fn hand_on<K: Sink>(row: &Row, line: usize, sink: &mut K) -> Result<(), EachEnd<K::Fault>>
-    ensures takes { (item : Item) → row.now ≡ item_shown item
-        → TakesOne K.takes K.faults result (line, item) sink.old sink.new }
-    ensures some { (item : Numbered) × TakesOne K.takes K.faults result item sink.old sink.new }
-    ensures unread { IfErr result (IsUnreadEnd (ReadsAsItem row.now)) }
+    ensures { HandsOn K.takes K.faults row.now line sink.old sink.new result }
 {
     let path = path_at(row, 0)?;
     let name = text_at(row, 1)?;
@@ -66,12 +59,7 @@ fn each_item<S: Alter, K: Sink>(
     sink: &mut K,
 ) -> Result<(), EachEnd<K::Fault>>
     requires { conn.old.in_transaction ≡ false }
-    ensures rests { OnlyReads S.Store conn.old conn.new }
-    ensures told { OverViews S.Store conn.old conn.new
-        (λ v. Walks K.takes K.faults result (placed_from 1 v.items) sink.old sink.new) }
-    ensures some { WalksSome K.takes K.faults result sink.old sink.new }
-    ensures caused { OverViews S.Store conn.old conn.new
-        (λ v. IsReadable v → IfErr result (IsCausedEnd S.Store conn.old conn.new)) }
+    ensures { HandsAll K.takes K.faults S.Store conn.old conn.new sink.old sink.new result }
 {
     let mut rows = conn.query("SELECT path, name FROM item ORDER BY path", &[])?;
     'rows: for at in 0..usize::MAX {

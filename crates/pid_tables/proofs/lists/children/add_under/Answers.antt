@@ -12,6 +12,8 @@ use Rattle.pid_tables.specs.Lists.Steps.Children.{between, children_among}
 use Rattle.pid_tables.proofs.OfLists.BelowLemmas.{kept_items}
 use Rattle.pid_tables.proofs.OfLists.ItemLists.{select_range, range_found, range_query}
 use Rattle.pid_tables.proofs.OfLists.RowLists.{read_or_caused}
+use Rattle.pid_tables.proofs.ThenReads.{no_memory}
+use Rattle.pid_tables.proofs.OfCheck.Asking.{nothing_read}
 use Rattle.pid_tables.proofs.lists.children.add_under.Goals as goal
 
 pub returns : goal.returns
@@ -37,3 +39,6 @@ returns-in_err-rows g c = record {
       passed_on c.from_residual-in_err-rows.result _ _ (λ fault. IsReadable v → IsCaused (state g.S.Store c.args.tables.now.conn) (state g.S.Store c.read_rows.new.tables.conn) fault) c.from_residual-in_err-rows.ensures.1
       (λ readable. c.in_err-rows.ensures.faults.caused clean pid_schema (λ opened. (rest.shows opened).schema) (rw (c.as_slice.ensures.value, c.as_slice-2.ensures.value) (range_query c.in_ok-range.range.low.items c.in_ok-range.range.high.items)));
 }
+
+pub returns-in_err-range : goal.returns-in_err-range
+returns-in_err-range g c = no_memory g.S.Store c.args.tables.now.conn c.args.tables.now.conn c.from_residual.result c.from_residual.ensures.1 (nothing_read (state g.S.Store c.args.tables.now.conn) c.args.tables.now.settled)

@@ -4,11 +4,12 @@ use Rattle.std.proofs.lemmas.List.Elements.{filter_map-append}
 use Rattle.sqlite.specs.Held.{state}
 use Rattle.sqlite.specs.Order.{Row}
 use Rattle.sqlite_rules.proofs.ListLemmas.{all_has}
-use Rattle.pid_moderation.specs.SubmissionPages.{Listing, listing_in}
+use Rattle.pid_moderation.specs.SubmissionPages.{listed_of, Listing, listing_in}
 use Rattle.pid_moderation.specs.Views.{Views}
 use Rattle.pid_tables.specs.Rows.Causes.{IsCaused, IsReadable}
 use Rattle.pid_tables.specs.Rows.Steps.Answers.{value_row}
 use Rattle.pid_tables.proofs.OfRows.CauseLemmas.{caused_later, passed_on}
+use Rattle.pid_tables.proofs.OfCheck.Asking.{nothing_read}
 use Rattle.pid_tables.proofs.OfRows.OnlyReading.{reads_then}
 use Rattle.pid_tables.specs.Lists.ByNumber.{standing_at, standings_at}
 use Rattle.pid_tables.specs.Lists.Steps.SubmissionRows.{AreListedIn, IsListedIn}
@@ -56,3 +57,6 @@ returns-in_err-add_listed g c = record {
       (λ readable. caused_later old mid new (λ _. ⊥) c.in_err-add_listed.field-0.0 before.0.survives one.rests.survives.counts (one.rests.clean clean)
       (one.told clean v (map (listing_in v) (standings_at (next.it ∷ []) v)) (before.0.kept v rest) (record { number = row.number; shown = c.row-item.is ∙ row.shown; fits = row.fits; is = row.is }) readable));
 }
+
+pub loop-row-init : goal.loop-row-init
+loop-row-init g c = (nothing_read (state g.S.Store c.args.tables.now.conn) c.args.tables.now.settled, λ clean v listed rest are. ap (map listed_of) c.new-page.ensures.items)

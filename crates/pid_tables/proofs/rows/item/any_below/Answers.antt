@@ -12,6 +12,8 @@ use Rattle.pid_tables.proofs.OfRows.CauseLemmas.{passed_on}
 use Rattle.pid_tables.proofs.OfRows.FindLemmas.{rows_at_rest}
 use Rattle.pid_tables.proofs.OfRows.QueryTexts.{between_query}
 use Rattle.pid_tables.proofs.OfRows.RangeLemmas.{select_between, between_found, rows_within}
+use Rattle.pid_tables.proofs.ThenReads.{no_memory}
+use Rattle.pid_tables.proofs.OfCheck.Asking.{nothing_read}
 use Rattle.pid_tables.proofs.rows.item.any_below.Goals as goal
 
 pub returns : goal.returns
@@ -34,3 +36,6 @@ returns-in_err-rows g c = record {
       passed_on c.from_residual-in_err-rows.result _ _ (λ fault. IsReadable v → IsCaused (state g.S.Store c.args.tables.now.conn) (state g.S.Store c.read_rows.new.tables.conn) fault) c.from_residual-in_err-rows.ensures.1
       (λ readable. c.in_err-rows.ensures.faults.caused clean pid_schema (λ opened. (rest.shows opened).schema) (rw (c.as_slice.ensures.value, c.as_slice-2.ensures.value) (between_query Two c.in_ok-range.range.low.items c.in_ok-range.range.high.items)));
 }
+
+pub returns-in_err-range : goal.returns-in_err-range
+returns-in_err-range g c = no_memory g.S.Store c.args.tables.now.conn c.args.tables.now.conn c.from_residual.result c.from_residual.ensures.1 (nothing_read (state g.S.Store c.args.tables.now.conn) c.args.tables.now.settled)

@@ -7,6 +7,8 @@ use Rattle.pid_tables.specs.Rows.Shows.{AreViews}
 use Rattle.pid_tables.specs.Rows.Steps.Ranges.{holds_under}
 use Rattle.pid_tables.proofs.OfRows.ChildLemmas.{child_below, generic_children, other_children, is_no_vendor}
 use Rattle.pid_tables.proofs.OfRows.OnlyReading.{reads_then, told_then}
+use Rattle.pid_tables.proofs.ThenReads.{fault_first, no_memory}
+use Rattle.pid_tables.proofs.OfCheck.Asking.{nothing_read}
 use Rattle.pid_tables.proofs.rows.item.has_children.Goals as goal
 
 pub returns-then-branch : goal.returns-then-branch
@@ -42,3 +44,9 @@ returns-in_default g c = record {
       let text = c.as_bytes.ensures.value ∙ c.in_ok-text.ensures in
       sym c.if-branch.false ∙ below.1 ∙ ap (λ t. holds_under t v.items) text ∙ other_children v.items below.0.sorted all parents c.args.path (is_no_vendor c.args.path (λ a is. c.in_default.not-Vendor a is));
 }
+
+pub returns-in_err-text : goal.returns-in_err-text
+returns-in_err-text g c = no_memory g.S.Store c.args.tables.now.conn c.args.tables.now.conn c.from_residual.result c.from_residual.ensures.1 (nothing_read (state g.S.Store c.args.tables.now.conn) c.args.tables.now.settled)
+
+pub returns-in_err-below : goal.returns-in_err-below
+returns-in_err-below g c = fault_first g.S.Store c.args.tables.now.conn c.any_below-below.new.tables.conn c.in_err-below.field-0.0 c.from_residual-in_err-below.result c.from_residual-in_err-below.ensures.1 c.in_err-below.ensures

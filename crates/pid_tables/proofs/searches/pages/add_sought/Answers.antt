@@ -8,6 +8,7 @@ use Rattle.pid_tables.proofs.OfLists.NumberLemmas.{kept_one}
 use Rattle.pid_tables.proofs.OfRows.CauseLemmas.{caused_later}
 use Rattle.pid_tables.proofs.OfRows.OnlyReading.{reads_then}
 use Rattle.pid_tables.proofs.OfSearches.AmongLemmas.{none_more, none_there, of_another, one_found}
+use Rattle.pid_tables.proofs.ThenReads.{fault_first}
 use Rattle.pid_tables.proofs.searches.pages.add_sought.Goals as goal
 
 pub returns-in-None : goal.returns-in-None
@@ -57,3 +58,6 @@ returns-in-Err g c =
       told = λ clean v rest readable.
           caused_later (state g.S.Store c.args.tables.now.conn) (state g.S.Store c.standing.new.tables.conn) (state g.S.Store c.remark_count.new.tables.conn) (λ _. ⊥) c.in-Err.fault one.rests.survives two.rests.survives.counts (two.rests.clean clean) (two.told clean v (one.rests.kept v rest) readable);
     }
+
+pub returns-in_err-standing : goal.returns-in_err-standing
+returns-in_err-standing g c = fault_first g.S.Store c.args.tables.now.conn c.standing.new.tables.conn c.in_err-standing.field-0.0 c.from_residual.result c.from_residual.ensures.1 c.in_err-standing.ensures

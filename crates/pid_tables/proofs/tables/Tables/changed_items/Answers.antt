@@ -1,12 +1,13 @@
-use Rattle.std.proofs.Common.{◌≡◌, ◌∷◌, ◌++◌, [], Some, ap, arith, length, sym, take_all, ◌∙◌}
+use Rattle.std.proofs.Common.{◌≡◌, ◌∷◌, ◌++◌, [], Some, ap, arith, length, map, sym, take_all, ◌∙◌}
 use Rattle.std.proofs.lemmas.List.{length-map}
 use Rattle.sqlite.specs.Held.{state}
 use Rattle.sqlite_rules.proofs.ListLemmas.{all_has}
 use Rattle.pid_moderation.specs.Items.{name_at}
 use Rattle.pid_tables.specs.Rows.Causes.{IsCaused, IsReadable}
 use Rattle.pid_tables.proofs.OfRows.CauseLemmas.{caused_later, passed_on}
+use Rattle.pid_tables.proofs.OfCheck.Asking.{nothing_read}
 use Rattle.pid_tables.proofs.OfRows.OnlyReading.{reads_then}
-use Rattle.pid_moderation.specs.ChangePages.{Changed}
+use Rattle.pid_moderation.specs.ChangePages.{changed_of, Changed}
 use Rattle.pid_tables.specs.Lists.Steps.ChangeRows.{since_shown}
 use Rattle.pid_tables.proofs.OfLists.RowLists.{next_of}
 use Rattle.pid_tables.proofs.tables.Tables.changed_items.Goals as goal
@@ -46,3 +47,6 @@ returns g c = record {
   told = λ clean v all rest change.
       c.loop-row.invariant.1 clean v all rest change ∙ take_all c.loop-row.row-index all (let done = c.loop-row-test.false in let long = ap length change.1 ∙ length-map all since_shown in omega (arith, done, long));
 }
+
+pub loop-row-init : goal.loop-row-init
+loop-row-init g c = (nothing_read (state g.S.Store c.args.self.now.conn) c.args.self.now.settled, λ clean v all rest change. ap (map changed_of) c.new-items.ensures.items)

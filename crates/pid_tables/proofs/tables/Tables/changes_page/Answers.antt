@@ -17,6 +17,7 @@ use Rattle.pid_tables.proofs.OfRows.FindLemmas.{rows_at_rest}
 use Rattle.pid_tables.proofs.OfRows.OnlyReading.{reads_then}
 use Rattle.pid_tables.specs.Lists.Steps.ChangeRows.{AreChangesIn, held}
 use Rattle.pid_tables.proofs.OfLists.ChangeLists.{select_changes, changes_found, changes_held, changes_named, changes_query}
+use Rattle.pid_tables.proofs.ThenReads.{fault_first, no_memory}
 use Rattle.pid_tables.proofs.tables.Tables.changes_page.Goals as goal
 
 -- what the rows that were asked for have
@@ -78,3 +79,9 @@ returns-in_err-rows g c =
           (λ readable. caused_later old mid new (λ _. ⊥) c.in_err-rows.field-0.0 one.rests.survives two.rests.survives.counts (two.rests.clean clean)
           ((rw (c.to_sql-after.ensures, c.clamp_to_i64-since.ensures) at (two.faults.caused clean pid_schema (λ opened. ((one.rests.kept v rest).shows opened).schema))) (changes_query c.as_str.result.now (held c.args.since))));
     }
+
+pub returns-in_err-revision : goal.returns-in_err-revision
+returns-in_err-revision g c = fault_first g.S.Store c.args.self.now.conn c.revision.new.self.conn c.in_err-revision.field-0.0 c.from_residual.result c.from_residual.ensures.1 c.in_err-revision.ensures
+
+pub returns-in_err-start : goal.returns-in_err-start
+returns-in_err-start g c = no_memory g.S.Store c.args.self.now.conn c.revision.new.self.conn c.from_residual-in_err-start.result c.from_residual-in_err-start.ensures.1 c.in_ok-revision.ensures.rests

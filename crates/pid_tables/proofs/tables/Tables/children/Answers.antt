@@ -10,6 +10,8 @@ use Rattle.pid_tables.proofs.OfLists.BelowLemmas.{behind, child_of, vendor_joine
 use Rattle.pid_tables.specs.Rows.Causes.{IsCaused, IsReadable}
 use Rattle.pid_tables.proofs.OfRows.CauseLemmas.{caused_later, passed_on}
 use Rattle.pid_tables.proofs.OfRows.OnlyReading.{reads_then}
+use Rattle.pid_tables.proofs.ThenReads.{fault_first, no_memory}
+use Rattle.pid_tables.proofs.OfCheck.Asking.{nothing_read}
 use Rattle.pid_tables.proofs.tables.Tables.children.Goals as goal
 
 pub returns-in_ok-add_under-in-Vendor : goal.returns-in_ok-add_under-in-Vendor
@@ -50,3 +52,9 @@ returns-in_err-add_under-in-Vendor g c =
           passed_on c.from_residual-in_err-add_under-in-Vendor.result _ _ (λ fault. IsReadable v → IsCaused old new fault) c.from_residual-in_err-add_under-in-Vendor.ensures.1
           (λ readable. caused_later old mid new (λ _. ⊥) c.in_err-add_under-in-Vendor.field-0.0 one.rests.survives two.rests.survives.counts (two.rests.clean clean) (two.told clean v (one.rests.kept v rest) readable));
     }
+
+pub returns-in_err-text : goal.returns-in_err-text
+returns-in_err-text g c = no_memory g.S.Store c.args.self.now.conn c.args.self.now.conn c.from_residual.result c.from_residual.ensures.1 (nothing_read (state g.S.Store c.args.self.now.conn) c.args.self.now.settled)
+
+pub returns-in_err-added : goal.returns-in_err-added
+returns-in_err-added g c = fault_first g.S.Store c.args.self.now.conn c.add_under-added.new.tables.conn c.in_err-added.field-0.0 c.from_residual-in_err-added.result c.from_residual-in_err-added.ensures.1 c.in_err-added.ensures

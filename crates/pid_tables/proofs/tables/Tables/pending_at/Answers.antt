@@ -1,7 +1,9 @@
-use Rattle.std.proofs.Common.{ap, refl, ◌∙◌, arith, take_all}
+use Rattle.std.proofs.Common.{ap, map, refl, ◌∙◌, arith, take_all}
 use Rattle.sqlite.specs.Held.{state}
+use Rattle.pid_moderation.specs.PendingPages.{told_of}
 use Rattle.pid_tables.specs.Rows.Causes.{IsCaused, IsReadable}
 use Rattle.pid_tables.proofs.OfRows.CauseLemmas.{caused_later, passed_on}
+use Rattle.pid_tables.proofs.OfCheck.Asking.{nothing_read}
 use Rattle.pid_tables.proofs.OfRows.OnlyReading.{reads_then}
 use Rattle.pid_tables.specs.Lists.ByNumber.{standings_at}
 use Rattle.pid_tables.proofs.OfLists.NumberLemmas.{more_there}
@@ -35,3 +37,6 @@ returns-in_err-add_numbered g c =
           passed_on c.from_residual.result _ _ (λ fault. IsReadable v → IsCaused old new fault) c.from_residual.ensures.1
           (λ readable. caused_later old mid new (λ _. ⊥) c.in_err-add_numbered.field-0.0 before.0.survives one.rests.survives.counts (one.rests.clean clean) (one.told clean v (before.0.kept v rest) readable));
     }
+
+pub loop-number-init : goal.loop-number-init
+loop-number-init g c = (nothing_read (state g.S.Store c.args.self.now.conn) c.args.self.now.settled, λ clean v rest. ap (map told_of) c.new-page.ensures.items)

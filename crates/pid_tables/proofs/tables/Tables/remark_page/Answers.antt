@@ -6,6 +6,7 @@ use Rattle.pid_tables.proofs.OfRows.OnlyReading.{reads_then}
 use Rattle.pid_moderation.specs.RemarkPages.{DiscussionPage}
 use Rattle.pid_moderation.specs.Submissions.{Standing}
 use Rattle.pid_moderation.specs.Views.{Remark}
+use Rattle.pid_tables.proofs.ThenReads.{fault_first}
 use Rattle.pid_tables.proofs.tables.Tables.remark_page.Goals as goal
 
 abbrev page_with : (number count : ℕ) → List (ℕ × Remark) → Standing → DiscussionPage
@@ -72,3 +73,6 @@ returns-in-None g c =
           let found = rw c.in-None.is at (three.told clean v (both.kept v rest)) in
           λ i. option_map (page_with c.args.number (count i) (page i)) (found i);
     }
+
+pub returns-in_err-remarks : goal.returns-in_err-remarks
+returns-in_err-remarks g c = fault_first g.S.Store c.args.self.now.conn c.remarks_after.new.tables.conn c.in_err-remarks.field-0.0 c.from_residual.result c.from_residual.ensures.1 c.in_err-remarks.ensures

@@ -4,6 +4,7 @@ use Rattle.pid_tables.specs.Rows.Causes.{IsCaused, IsReadable}
 use Rattle.pid_tables.proofs.OfRows.CauseLemmas.{caused_later, passed_on}
 use Rattle.pid_tables.proofs.OfRows.OnlyReading.{reads_then}
 use Rattle.pid_moderation.specs.Submissions.{Standing}
+use Rattle.pid_tables.proofs.ThenReads.{fault_first}
 use Rattle.pid_tables.proofs.tables.Tables.submission.Goals as goal
 
 pub returns-in_err-submission : goal.returns-in_err-submission
@@ -43,3 +44,6 @@ returns-in-None g c =
           let found = rw c.in-None.is at (two.told clean v (one.rests.kept v rest)) in
           λ i. option_map (λ (s : Standing). (s, all i)) (found i);
     }
+
+pub returns-in_err-remarks : goal.returns-in_err-remarks
+returns-in_err-remarks g c = fault_first g.S.Store c.args.self.now.conn c.comments.new.tables.conn c.in_err-remarks.field-0.0 c.from_residual.result c.from_residual.ensures.1 c.in_err-remarks.ensures

@@ -12,6 +12,7 @@ use Rattle.pid_tables.specs.Lists.ByNumber.{standings_at}
 use Rattle.pid_tables.specs.Lists.Steps.SubmissionRows.{AreListedIn, WantedRows, last_before, latest_asked, next_after, numbers_among}
 use Rattle.pid_tables.proofs.OfLists.SubmissionLists.{numbers_fit}
 use Rattle.pid_tables.proofs.OfLists.SubmissionPageLemmas.{page_is, path_stands}
+use Rattle.pid_tables.proofs.ThenReads.{fault_first, no_memory}
 use Rattle.pid_tables.proofs.tables.Tables.submissions_page.Goals as goal
 
 -- what the rows that were asked for have
@@ -71,3 +72,9 @@ returns-in_err-rows g c =
           passed_on c.from_residual-in_err-rows.result _ _ (λ fault. IsReadable v → IsCaused old new fault) c.from_residual-in_err-rows.ensures.1
           (λ readable. caused_later old mid new (λ _. ⊥) c.in_err-rows.field-0.0 one.rests.survives two.rests.survives.counts (two.rests.clean clean) (two.told clean v (one.rests.kept v rest) readable));
     }
+
+pub returns-in_err-count : goal.returns-in_err-count
+returns-in_err-count g c = fault_first g.S.Store c.args.self.now.conn c.submissions.new.self.conn c.in_err-count.field-0.0 c.from_residual.result c.from_residual.ensures.1 c.in_err-count.ensures
+
+pub returns-in_err-path : goal.returns-in_err-path
+returns-in_err-path g c = no_memory g.S.Store c.args.self.now.conn c.submissions.new.self.conn c.from_residual-in_err-path.result c.from_residual-in_err-path.ensures.1 c.in_ok-count.ensures.rests
