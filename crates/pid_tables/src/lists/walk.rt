@@ -3,7 +3,7 @@ ghost use Rattle.std.specs.Prelude.{◌≡◌, false, IfErr};
 ghost use Rattle.pid_tables.specs.Rows.Causes.{IsReadable};
 ghost use Rattle.pid_tables.specs.Rows.Steps.Faults.{fault_of_sql};
 ghost use Rattle.pid_tables.specs.Lists.EachItem.{Walks, WalksSome, placed_from};
-ghost use Rattle.pid_tables.specs.Lists.Steps.EachItem.{HandsAll, HandsOn};
+ghost use Rattle.pid_tables.specs.Lists.Steps.EachItem.{HandsAll, HandsRow};
 ghost use Rattle.pid_tables.specs.declared.lists.walk.EachEnd.TheVariants as ends;
 ghost use Rattle.pid_tables.specs.Rows.Clauses.{OnlyReads};
 ghost use Rattle.pid_tables.specs.Lists.Clauses.{IsCausedEnd, OverViews};
@@ -40,7 +40,7 @@ impl<F> From<SqlError> for EachEnd<F> {
 
 // Hands the item of a row to the sink.
 fn hand_on<K: Sink>(row: &Row, line: usize, sink: &mut K) -> Result<(), EachEnd<K::Fault>>
-    ensures { HandsOn K.takes K.faults row.now line sink.old sink.new result }
+    ensures { HandsRow K.takes K.faults row.now line sink.old sink.new result }
 {
     let path = path_at(row, 0)?;
     let name = text_at(row, 1)?;

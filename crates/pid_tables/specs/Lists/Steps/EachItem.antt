@@ -29,7 +29,7 @@ TakesOne takes faults (Err (Tables t)) item old new = new ≡ old
 module _ {K F X : Type 0} (takes : K → Numbered → K → Type 0)
     (faults : K → Numbered → F → K → Type 0) where
   -- the row of an item that is handed to a sink with its place
-  pub record HandsOn (row : Row) (place : ℕ) (old new : K) (result : Result X (EachEnd F))
+  pub record HandsRow (row : Row) (place : ℕ) (old new : K) (result : Result X (EachEnd F))
       : Type 0 where
     pub one : (item : Item) → row ≡ item_shown item
         → TakesOne takes faults result (place, item) old new
