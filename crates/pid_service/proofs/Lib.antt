@@ -1,5 +1,6 @@
 pub mod Words
 pub mod Leading
+pub mod Reached
 pub mod Judged
 pub mod Keeping
 pub mod WriteLemmas
@@ -15,6 +16,8 @@ pub mod Lasting
 pub mod ImportSessions
 pub mod QueriesMet
 pub mod RunSessions
+pub mod Prefixes
+pub mod SessionsMet
 pub mod Questions
 pub mod ItemLines
 pub mod RenewedTexts
@@ -25,7 +28,6 @@ pub mod WalkEnds
 pub mod Labelled
 pub mod CountedLines
 pub mod PendingNumbers
-pub mod KeptNumbers
 pub mod ImportCauses
 pub mod CallsMet
 pub mod TopItems

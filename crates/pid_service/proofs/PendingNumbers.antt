@@ -11,6 +11,7 @@ use Rattle.pid_moderation.specs.declared.change.Write.{Write}
 use Rattle.pid_moderation.specs.declared.facts.State.{State}
 use Rattle.pid_moderation.specs.declared.facts.State.TheVariants.{Pending as PendingState}
 use Rattle.pid_moderation.specs.Views.{Submitted}
+use Rattle.pid_tables.proofs.OfLists.PageLemmas.{goes_on, next_pending}
 use Rattle.pid_tables.proofs.OfLists.PendingLists.{page_in}
 use Rattle.pid_service.proofs.Words.{affected, AreStandingIn, AreViews, Change, changed, Decided, Effect, FitsEffect, HoldsPending, is_pending, its_number, keeping, last_of, numbers_pending, Path, Pending, pending_above, pending_in, pending_number, PendingGoOn, Proposal, Receipt, Standing, standings_at, standings_from, submission_at, told_of, Views, waits_above}
 
@@ -125,6 +126,10 @@ pub last_page : (v : Views) (most after : ℕ) (page : List Pending) (before : L
 last_page v most after page before told short =
     let many : length (pending_in most after v) ≡ length page = sym (ap length told) ∙ length-map page told_of in
     ap (λ l. before ++ l) (numbers_told page ∙ ap (map pending_number) (told ∙ take_short most (pending_above after v) (omega (arith, many, short))))
+
+-- the pages go on, each after the last number of the one before
+pub pending_next : PendingGoOn
+pending_next most after v = goes_on pending_number (λ behind. pending_above behind v) (next_pending v) most after
 
 -- what waits after the last number of a page comes after it
 pub next_page : PendingGoOn → (v : Views) (most after : ℕ) (page : List Pending) (before : List ℕ) → map told_of page ≡ pending_in most after v

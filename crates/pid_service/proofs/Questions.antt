@@ -214,7 +214,7 @@ module _ {S : Type 0} (store : Ghosts S) where
       answers_then old mid new y r Before Says first (answers_read mid new found r Told Says (live_after old mid y Before first) same kept read is readable means)
 
   -- one whose answer is left out
-  pub answers_nothing : {X : Type 0} (old new : Registry S store) (x : X) (Says : History → X → Type 0) → Finds store old new (Ok x) Says → Finds store old new (Ok (tt {0})) (λ h _. Unit {0})
+  answers_nothing : {X : Type 0} (old new : Registry S store) (x : X) (Says : History → X → Type 0) → Finds store old new (Ok x) Says → Finds store old new (Ok (tt {0})) (λ h _. Unit {0})
   answers_nothing old new x Says a = record {
     failed = λ off. absurd (answered x Failed (a.failed off).0);
     fault = tt;
@@ -235,9 +235,14 @@ module _ {S : Type 0} (store : Ghosts S) where
     caused = λ clean h shows. tt;
   }
 
-  pub answers_unless : {X : Type 0} (old new : Registry S store) (e : Refusal) (r : Result (Unit {0}) Refusal) (Says : History → X → Type 0) → (r ≡ Err e) ⊎ ((e ≡ Memory) × (r ≡ Ok tt)) → Finds store old new (Err e) Says → Finds store old new r (λ h _. Unit {0})
+  answers_unless : {X : Type 0} (old new : Registry S store) (e : Refusal) (r : Result (Unit {0}) Refusal) (Says : History → X → Type 0) → (r ≡ Err e) ⊎ ((e ≡ Memory) × (r ≡ Ok tt)) → Finds store old new (Err e) Says → Finds store old new r (λ h _. Unit {0})
   answers_unless old new e r Says (inl same) a = subst (λ (x : Result (Unit {0}) Refusal). Finds store old new x (λ h _. Unit {0})) (sym same) (answers_refused old new e Says (λ h _. Unit {0}) a)
   answers_unless old new e r Says (inr (short, same)) a = subst (λ (x : Result (Unit {0}) Refusal). Finds store old new x (λ h _. Unit {0})) (sym same) (answers_short old new e Says short a)
+
+  -- whatever it was answered, unless that was another refusal
+  pub answers_kept : {X : Type 0} (old new : Registry S store) (found : Result X Refusal) (r : Result (Unit {0}) Refusal) (Says : History → X → Type 0) → MatchResult found (λ x. r ≡ Ok tt) (λ e. (r ≡ Err e) ⊎ ((e ≡ Memory) × (r ≡ Ok tt))) → Finds store old new found Says → Finds store old new r (λ h _. Unit {0})
+  answers_kept old new (Ok x) r Says is a = subst (λ (y : Result (Unit {0}) Refusal). Finds store old new y (λ h _. Unit {0})) (sym is) (answers_nothing old new x Says a)
+  answers_kept old new (Err e) r Says is a = answers_unless old new e r Says is a
 
   -- a read that kept nothing
   pub answers_unkept : (old new : Registry S store) → is_live old ≡ true → is_live new ≡ is_live old → kept_views new ≡ kept_views old → OnlyReads store old new → Finds store old new (Ok (tt {0})) (λ h _. Unit {0})

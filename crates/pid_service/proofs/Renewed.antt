@@ -6,7 +6,8 @@ use Rattle.std.proofs.lemmas.List.{map-append, take-map, drop-map}
 use Rattle.pid_file.specs.PathTexts.{path_text}
 use Rattle.pid_file.specs.Trees.{text_cmp}
 use Rattle.pid_moderation.specs.declared.change.Write.{Write}
-use Rattle.pid_service.proofs.Words.{Add, Edit, edited, edited_item, Extent, extent_in, Extents, extents_after, GrowingText, has_lines, HasLines, IsKeptText, IsPlace, Items, KeptText, last_extent, new_items, OpensTheSame, Path, path_before, PutsLines, Remove, Rename, text_behind, text_of_items, text_or_none, TextPlace}
+use Rattle.pid_moderation.specs.declared.facts.State.{State}
+use Rattle.pid_service.proofs.Words.{Add, affected, Decided, Edit, edited, Effect, HoldsText, Views, edited_item, Extent, extent_in, Extents, extents_after, GrowingText, has_lines, HasLines, IsKeptText, IsPlace, Items, KeptText, last_extent, new_items, OpensTheSame, Path, path_before, PutsLines, Remove, Rename, text_behind, text_of_items, text_or_none, TextPlace}
 use Rattle.pid_service.proofs.ItemLines.{extents_joined, last_path, text_joined}
 use Rattle.pid_service.proofs.RenewedTexts.{drop_extents, edited_parts, extents_follow, last_after, last_there, take_extents, text_after, text_before, text_follows, text_parts}
 
@@ -105,3 +106,8 @@ module _ (old new : KeptText) (place : TextPlace) (write : Write) (lines : Growi
         ∙ (λ i. extents_front i ++ (extents_new i ++ (extents_rest ∙ extents_follow behind (last_path before put_items) rest opens) i))
         ∙ ap (λ (l : Extents). extents_after [] front ++ l) (sym (extents_joined before put_items rest)) ∙ sym (extents_joined [] front (put_items ++ rest)) ∙ ap (extents_after []) (sym parts);
   }
+
+-- a decision that writes an item leaves the text of the items with it
+pub decided_text : (text : Option KeptText) (effect : Effect) (number : ℕ) (state : State) (w : Option Write) (one : Write) → effect ≡ Decided number state w → w ≡ Some one → (n : ℕ) (v : Views) → HoldsText text (edited (path_text one.path) one.edit v.items) → HoldsText text (affected n effect v).items
+decided_text text effect number state w one is there n v holds =
+    subst (λ (e : Effect). HoldsText text (affected n e v).items) (sym (is ∙ ap (λ (o : Option Write). Decided number state o) there)) holds

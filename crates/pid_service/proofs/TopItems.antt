@@ -1,11 +1,12 @@
 -- The vendors and the classes, after each change.
-use Rattle.std.proofs.Common.{◌≡◌, ℕ, Bool, false, cond, List, [], ◌∷◌, ◌++◌, ◌+◌, ◌<◌, IfSome, length, map, take, get_or, Option, Some, None, refl, sym, ap, subst, ◌∙◌}
+use Rattle.std.proofs.Common.{◌≡◌, ℕ, Bool, true, false, cond, List, [], ◌∷◌, ◌++◌, ◌+◌, ◌<◌, IfSome, length, map, take, get_or, Option, Some, None, refl, sym, ap, subst, ◌∙◌}
 use Rattle.std.specs.Prelude.{Vec, is_none, filter, not, option_map}
 use Rattle.std.specs.declared.alloc.Global.{Global}
 use Rattle.std.specs.declared.cmp.Ordering.{Ordering}
 use Rattle.std.specs.declared.cmp.Ordering.TheVariants.{Less, Equal, Greater}
 use Rattle.std.specs.Ordering.{eq_by_cmp, is_eq}
 use Rattle.std.specs.FinMap.Entries.{put, where_key, by_order}
+use Rattle.std.proofs.lemmas.Bool.{false≢true}
 use Rattle.std.proofs.lemmas.List.{map-append, take_more}
 use Rattle.pid_file.proofs.Maps.{same_texts}
 use Rattle.pid_file.specs.PathTexts.{path_text}
@@ -94,3 +95,9 @@ one_copied items i item copy now low is so more =
 pub copied_holds : (items : List Item) (copy : Option (Vec Item Global)) (v : Views) → map pair_of items ≡ children_of None v.items → IfSome copy (λ made. map pair_of made.items ≡ map pair_of items) → HoldsTop copy v
 copied_holds items None v told same = tt
 copied_holds items (Some made) v told same = same ∙ told
+
+-- and so is one that is asked for
+pub top_found : (top : Option (Vec Item Global)) (kept : Vec Item Global) (copy : Option (Vec Item Global)) (above : Option Path) (v : Views) → top ≡ Some kept → is_none above ≡ true → IfSome copy (λ made. map pair_of made.items ≡ map pair_of kept.items) → HoldsTop top v
+    → IfSome copy (λ made. map pair_of made.items ≡ children_of (option_map path_text above) v.items)
+top_found top kept copy None v is none same holds = copied_holds kept.items copy v (subst (λ (t : Option (Vec Item Global)). HoldsTop t v) is holds) same
+top_found top kept copy (Some path) v is none same holds = absurd (false≢true none)

@@ -129,23 +129,23 @@ fn whole_page(alloc: Global, since: u64, page: &[ChangedItem]) -> Option<KeptCha
     Some(KeptChanges { since, items })
 }
 
-/// What is kept after a page was read: the page, if it has all that were changed after a number,
-/// and else what was kept.
-pub(crate) fn kept_after(
+/// Keeps a page that was read, if it has all that were changed after a number and memory is there
+/// for it.
+pub(crate) fn keep_page(
     alloc: Global,
-    kept: Option<KeptChanges>,
+    kept: &mut Option<KeptChanges>,
     since: u64,
     after: Option<Path>,
     page: &[ChangedItem],
-) -> Option<KeptChanges>
-    ensures { (v : Views) → HoldsChanges kept v → IsPage since after v page.now
-        → HoldsChanges result v }
+)
+    ensures { (v : Views) → HoldsChanges kept.old v → IsPage since after v page.now
+        → HoldsChanges kept.new v }
 {
     match after {
-        Some(_) => kept,
+        Some(_) => {}
         None => match whole_page(alloc, since, page) {
-            Some(whole) => Some(whole),
-            None => kept,
+            Some(whole) => *kept = Some(whole),
+            None => {}
         },
     }
 }
@@ -272,17 +272,19 @@ fn renewed(alloc: Global, kept: &KeptChanges, number: u64, write: &Write) -> Opt
 /// after an import, and if memory runs out.
 pub(crate) fn changes_after(
     alloc: Global,
-    kept: Option<KeptChanges>,
+    kept: &Option<KeptChanges>,
     revision: u64,
     effect: &Effect,
 ) -> Option<KeptChanges>
-    ensures { (v : Views) → AreViews v → FitsEffect effect.now v → HoldsChanges kept v
+    ensures { (v : Views) → AreViews v → FitsEffect effect.now v → HoldsChanges kept.now v
         → HoldsChanges result (affected revision effect.now v) }
 {
-    let kept = kept?;
+    let Some(kept) = kept else {
+        return None;
+    };
     match effect {
         Effect::Decided { write, .. } => match write {
-            Some(write) => renewed(alloc, &kept, revision, write),
+            Some(write) => renewed(alloc, kept, revision, write),
             None => None,
         },
         Effect::Imported { .. }

@@ -34,7 +34,8 @@ impl<S: Alter + Drop> Registry<S> {
         // Of a registry that shows a history the tables show it.
         ensures shown { (h : History) → Shows S.Store self h → AtRest S.Store result (views_of h) }
     {
-        let Registry { tables, .. } = self;
+        let Registry { tables, kept, .. } = self;
+        drop(kept);
         tables.into_conn()
     }
 }

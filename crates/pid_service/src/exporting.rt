@@ -3,7 +3,6 @@ ghost use Rattle.pid_service.specs.Exporting.{IsExported};
 ghost use Rattle.pid_service.specs.Steps.Exporting.{IsToldAs};
 
 use crate::item_text::export_items;
-use crate::laws;
 use crate::registry::Registry;
 use pid_ident::{Output, WriteFault, write_all};
 use pid_moderation::Refusal;
@@ -28,8 +27,6 @@ impl<S: Alter + Drop> Registry<S> {
         if !self.live {
             return Err(ExportFault::Refused(Refusal::Failed));
         }
-        laws::reached_histories_are_kept(); // proof only
-        laws::items_print_as_their_tree(); // proof only
         if let Some(text) = &self.kept.items.text {
             return match write_all(output, text.bytes.as_slice()) {
                 Ok(()) => Ok(()),

@@ -9,24 +9,20 @@ ghost use Rattle.pid_service.specs.Importing.{
   IsImported,
   OfRefusal,
 };
-ghost use Rattle.pid_service.specs.Obeying.{Obeys};
 ghost use Rattle.pid_service.specs.Registries.{is_live as lives};
 ghost use Rattle.pid_service.specs.Steps.Importing.{
   AnswersPast,
-  BytesStay,
   CarriesText,
   CausesImport,
   EndStays,
   EndStaysLive,
   FaultStays,
   IsPlain,
-  OverBytes,
   TakesText,
   long_refusal,
 };
 ghost use Rattle.pid_service.specs.Steps.Obeying.{StaysLive};
 
-use crate::laws;
 use crate::registry::Registry;
 use pid_ident::{Account, Input, Key};
 use pid_moderation::{Act, Command, FILE_BYTES, Facts, File, Refusal, Reply};
@@ -82,8 +78,8 @@ pub(crate) fn answer_past<I: Input>(
     }
 }
 
-// What an import of bytes is answered: they do not fail.
-fn without_body_fault(end: Result<Reply, ImportEnd>) -> Result<Reply, Refusal>
+/// What an import of bytes is answered: they do not fail.
+pub(crate) fn without_body_fault(end: Result<Reply, ImportEnd>) -> Result<Reply, Refusal>
     ensures same { IsPlain end result }
     ensures held { (before after : Bool) → EndStaysLive end before after
         → StaysLive result before after }
@@ -121,7 +117,6 @@ impl<S: Alter + Drop> Registry<S> {
         ensures caused { OverHistory S.Store self.old self.new (λ h. WhereOpen h command.now
             facts.old items (IfErr result (OfRefusal (FaultStays (lives self.new))))) }
     {
-        pid_service_laws::judgements_are_outcomes(); // proof only
         self.kept.forget_items();
         match import_file(
             &mut self.tables.conn,
@@ -155,11 +150,7 @@ impl<S: Alter + Drop> Registry<S> {
             (λ faults. IfErr result (OfRefusal faults)) }
     {
         pid_moderation::laws::command_is_well_made(command); // proof only
-        laws::commands_lead_on(); // proof only
-        laws::reached_histories_are_kept(); // proof only
         pid_tables::laws::texts_read_to_files(); // proof only
-        pid_tables::laws::long_files_are_refused(); // proof only
-        pid_service_laws::judgements_are_outcomes(); // proof only
         match judge_import(&mut self.tables, self.alloc, command) {
             Early::Answered(answer) => answer_past(true, answer, input),
             Early::Open { mut facts, items } => {
@@ -168,18 +159,6 @@ impl<S: Alter + Drop> Registry<S> {
                 end
             }
         }
-    }
-
-    // Obeys an import of bytes, which are not too many; the file of the command is left out.
-    pub(crate) fn import_bytes(&mut self, command: &Command, file: &[u8]) -> Result<Reply, Refusal>
-        ensures obeyed { OverBytes S.Store self.old self.new command.now file.now
-            (Obeys S.Store result self.new) }
-        ensures lasts { BytesStay S.Store self.old self.new result }
-        ensures caused { CausesImport S.Store self.old self.new command.now (IfErr result) }
-    {
-        let mut input = SliceInput::new(file);
-        let end = self.import_act(command, &mut input);
-        without_body_fault(end)
     }
 
     /// Obeys an import of these bytes, as `obey` obeys one that has them.
@@ -199,7 +178,8 @@ impl<S: Alter + Drop> Registry<S> {
             return Err(Refusal::BadText);
         }
         let command = import_command(self.alloc, account, key);
-        let answer = self.import_bytes(&command, file);
+        let mut input = SliceInput::new(file);
+        let answer = without_body_fault(self.import_act(&command, &mut input));
         drop(command);
         answer
     }

@@ -6,7 +6,6 @@ ghost use Rattle.pid_moderation.specs.Revisions.{IsMarked};
 ghost use Rattle.pid_moderation.specs.Views.{views_of};
 ghost use Rattle.pid_service.specs.Steps.Judging.{Judges, JudgesCommand, OverFacts};
 
-use crate::laws;
 use pid_moderation::{Change, Command, Facts, Refusal, Reply, decide, needs};
 use pid_tables::{Tables, refusal_of};
 use sqlite::Alter;
@@ -48,7 +47,6 @@ pub(crate) fn judge<S: Alter + Drop>(
 ) -> Result<Judged, Refusal>
     ensures { Judges S.Store tables.old tables.new command.now result }
 {
-    laws::reached_histories_are_kept(); // proof only
     match tables.gather(alloc, &command.account, &command.key, needs(command)) {
         Ok(facts) => {
             let judged = judged_by(&facts, command);

@@ -1,4 +1,4 @@
-//! The items directly below a path, read from the text that is kept.
+//! The items directly below a path, from what is kept in memory.
 ghost use Rattle.std.specs.Prelude.{
   ◌≡◌,
   ◌≤◌,
@@ -18,20 +18,17 @@ ghost use Rattle.pid_file.specs.Steps.Printing.{text_or_none};
 ghost use Rattle.pid_moderation.specs.Children.{children_of, stands_below};
 ghost use Rattle.pid_moderation.specs.ItemPairs.{pair_of};
 ghost use Rattle.pid_moderation.specs.Items.{Items};
-ghost use Rattle.pid_moderation.specs.Views.{items_of};
-ghost use Rattle.pid_service.specs.KeptViews.{IsKeptText};
-ghost use Rattle.pid_service.specs.Steps.Asking.{Finds};
+ghost use Rattle.pid_moderation.specs.Views.{Views};
+ghost use Rattle.pid_service.specs.KeptViews.{IsKeptText, IsRightFor};
 ghost use Rattle.pid_service.specs.Steps.KeptChildren.{before_name};
 ghost use Rattle.pid_tables.specs.Lists.Steps.Adding.{Adds};
 
 use crate::items_text::{block_length, label_length};
 use crate::kept_text::{Extent, FIRST, KeptText, MOST_BYTES};
-use crate::laws;
-use crate::reading::fault_as_refusal;
-use crate::registry::Registry;
+use crate::kept_views::KeptViews;
+use crate::top::copied;
 use pid_ident::{Name, NameText, Path};
-use pid_moderation::{Item, Refusal};
-use sqlite::Alter;
+use pid_moderation::Item;
 use std::alloc::Global;
 
 // How many bytes come before the name in the lines of an item.
@@ -89,8 +86,8 @@ fn add_child(
     }
 }
 
-/// The items directly below a path, or at the top. None if memory runs out.
-pub(crate) fn children_in(alloc: Global, text: &KeptText, above: Option<Path>) -> Option<Vec<Item>>
+// The items directly below a path, or at the top, read from the text. None if memory runs out.
+fn children_in(alloc: Global, text: &KeptText, above: Option<Path>) -> Option<Vec<Item>>
     ensures { (items : Items) → IsKeptText text.now items → IfSome result (λ found.
         map pair_of found.items ≡ children_of (option_map path_text above) items) }
 {
@@ -142,24 +139,25 @@ fn is_sooner_in_text(extents: &[Extent], above: Option<Path>) -> bool {
     }
 }
 
-impl<S: Alter + Drop> Registry<S> {
-    /// The items directly below a path, or at the top: from the text, if it is kept and they are
-    /// many, or from the rows of items.
-    pub(crate) fn children_below(&mut self, above: Option<Path>) -> Result<Vec<Item>, Refusal>
-        ensures { Finds S.Store self.old self.new result (λ h items.
-            map pair_of items.items ≡ children_of (option_map path_text above) (items_of h)) }
+impl KeptViews {
+    /// The items directly below a path, or at the top, if they are kept, if they are many or at the
+    /// top, and if memory is there for them.
+    pub(crate) fn children(&self, alloc: Global, above: Option<Path>) -> Option<Vec<Item>>
+        ensures { (v : Views) → IsRightFor self.now v → IfSome result (λ found.
+            map pair_of found.items ≡ children_of (option_map path_text above) v.items) }
     {
-        if !self.live {
-            return Err(Refusal::Failed);
-        }
-        laws::reached_histories_are_kept(); // proof only
-        if let Some(text) = &self.kept.items.text {
-            if is_sooner_in_text(text.extents.as_slice(), above) {
-                if let Some(items) = children_in(self.alloc, text, above) {
-                    return Ok(items);
-                }
+        if above.is_none() {
+            if let Some(top) = &self.top {
+                return copied(alloc, top.as_slice());
             }
         }
-        fault_as_refusal(self.tables.children(self.alloc, above))
+        let Some(text) = &self.items.text else {
+            return None;
+        };
+        if is_sooner_in_text(text.extents.as_slice(), above) {
+            children_in(alloc, text, above)
+        } else {
+            None
+        }
     }
 }

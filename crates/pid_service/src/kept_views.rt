@@ -10,8 +10,8 @@ use crate::accounts::accounts_after;
 use crate::changes::{KeptChanges, changes_after};
 use crate::kept_text::KeptText;
 use crate::pending_numbers::add_number;
-use crate::renewing::text_after;
-use crate::top::top_after;
+use crate::renewing::follow_text;
+use crate::top::follow_top;
 use pid_lookup::NameCache;
 use pid_moderation::{Change, Effect, Item, State};
 use pid_tables::searches::{Searches, numbers_after};
@@ -58,31 +58,30 @@ fn writes_items(effect: &Effect) -> bool
     }
 }
 
-// The numbers of what is pending after a change.
-fn pending_after(numbers: Option<Vec<u32>>, effect: &Effect) -> Option<Vec<u32>>
+// Renews the numbers of what is pending after a change. None are kept if memory runs out.
+fn follow_pending(kept: &mut Option<Vec<u32>>, effect: &Effect)
     ensures { (n : ℕ) (v : Views) → AreViews v → FitsEffect effect.now v
-        → HoldsPending numbers v → HoldsPending result (affected n effect.now v) }
+        → HoldsPending kept.old v → HoldsPending kept.new (affected n effect.now v) }
 {
-    let mut numbers = numbers?;
+    let Some(numbers) = kept else {
+        return;
+    };
     match effect {
         Effect::Submitted { number, .. } => {
-            if add_number(&mut numbers, *number) {
-                Some(numbers)
-            } else {
-                None
+            if !add_number(numbers, *number) {
+                *kept = None;
             }
         }
         Effect::Decided { number, state, .. } => match state {
-            State::Pending => None,
+            State::Pending => *kept = None,
             State::Approved { .. } | State::Rejected { .. } | State::Withdrawn => {
                 numbers.retain(|pending| *pending != *number);
-                Some(numbers)
             }
         },
         Effect::Nothing
         | Effect::Ranked { .. }
         | Effect::Remarked { .. }
-        | Effect::Imported { .. } => Some(numbers),
+        | Effect::Imported { .. } => {}
     }
 }
 
@@ -145,20 +144,16 @@ impl KeptViews {
         ensures { (v : Views) → AreViews v → FitsViews change.now v → IsRightFor self.old v
             → IsRightFor self.new (changed change.now v) }
     {
-        let numbers = self.pending.take();
-        self.pending = pending_after(numbers, &change.effect);
+        follow_pending(&mut self.pending, &change.effect);
         let kept = replace(&mut self.numbers, Searches::Lacking);
         self.numbers = numbers_after(alloc, kept, &change.effect);
         self.accounts = accounts_after(self.accounts, &change.effect);
-        let top = self.top.take();
-        self.top = top_after(top, &change.effect);
+        follow_top(&mut self.top, &change.effect);
         if !writes_items(&change.effect) {
             return;
         }
         self.items.names.clear();
-        let text = self.items.text.take();
-        self.items.text = text_after(alloc, text, &change.effect);
-        let changes = self.changes.take();
-        self.changes = changes_after(alloc, changes, change.revision, &change.effect);
+        follow_text(alloc, &mut self.items.text, &change.effect);
+        self.changes = changes_after(alloc, &self.changes, change.revision, &change.effect);
     }
 }

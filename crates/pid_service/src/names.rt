@@ -1,5 +1,4 @@
 //! A registry as a holder of names, for look-ups. Names that were asked for it keeps in memory.
-use crate::laws;
 use crate::registry::Registry;
 use pid_ident::{Name, Path};
 use pid_lookup::Names;
@@ -35,8 +34,6 @@ impl<S: Alter + Drop> Names for Registry<S> {
     ghost only_asked = { OnlyAsked S.Store };
 
     fn name_of(&mut self, path: &Path) -> Result<Option<Name>, Refusal> {
-        laws::reached_histories_are_kept(); // proof only
-        pid_moderation::laws::trees_are_last_writes(); // proof only
         if !self.live {
             return Err(Refusal::Failed);
         }

@@ -3,11 +3,12 @@ ghost use Rattle.std.specs.Prelude.{◌≡◌, Ok};
 ghost use Rattle.pid_service.specs.Obeying.{IsObeyed, Obeys};
 ghost use Rattle.pid_service.specs.Steps.Obeying.{LivesOrFails, WhereComes};
 
+use crate::importing::without_body_fault;
 use crate::judging::{Judged, judge};
-use crate::laws;
 use crate::registry::Registry;
 use crate::writing::write;
 use pid_moderation::{Act, Command, Refusal, Reply, breaks_form};
+use pid_reader::SliceInput;
 use pid_tables::refusal_of;
 use sqlite::Alter;
 
@@ -19,8 +20,6 @@ impl<S: Alter + Drop> Registry<S> {
         ensures repeated { (reply : Reply) → judged.now ≡ Judged.Kept reply → result ≡ Ok reply }
         ensures held { LivesOrFails S.Store result self.old self.new }
     {
-        laws::reached_histories_are_kept(); // proof only
-        pid_tables::laws::views_of_sound_histories(); // proof only
         match judged {
             Judged::Kept(reply) => Ok(*reply),
             Judged::Accepted { change, reply } => {
@@ -42,7 +41,6 @@ impl<S: Alter + Drop> Registry<S> {
         ensures { IsObeyed S.Store self.old self.new command.now result }
     {
         pid_moderation::laws::command_is_well_made(command); // proof only
-        laws::commands_lead_on(); // proof only
         if !self.live {
             return Err(Refusal::Failed);
         }
@@ -50,7 +48,8 @@ impl<S: Alter + Drop> Registry<S> {
             return Err(Refusal::BadText);
         }
         if let Act::Import { file } = &command.act {
-            return self.import_bytes(command, file.as_bytes());
+            let mut input = SliceInput::new(file.as_bytes());
+            return without_body_fault(self.import_act(command, &mut input));
         }
         match judge(&mut self.tables, self.alloc, command) {
             Err(refusal) => Err(refusal),

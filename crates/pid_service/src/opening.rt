@@ -16,7 +16,6 @@ ghost use Rattle.pid_service.specs.Opening.{
 ghost use Rattle.pid_service.specs.Steps.Opening.{IsMadeReady, JudgesTables};
 
 use crate::kept_views::KeptViews;
-use crate::laws;
 use crate::registry::Registry;
 use pid_tables::{Step, TableFault, Tables, Version};
 use sqlite::{Alter, Connection};
@@ -35,7 +34,6 @@ fn is_today(found: Option<Version>) -> bool
 fn judge_tables<S: Alter + Drop>(tables: &mut Tables<S>, alloc: Global) -> Result<(), TableFault>
     ensures { JudgesTables S.Store tables.old tables.new result }
 {
-    laws::reached_histories_are_kept(); // proof only
     pid_tables::laws::all_is_committed_outside_transactions(&tables.conn); // proof only
     match tables.check(alloc) {
         Err(fault) => Err(fault),
@@ -53,7 +51,6 @@ fn judge_tables<S: Alter + Drop>(tables: &mut Tables<S>, alloc: Global) -> Resul
 fn make_ready<S: Alter + Drop>(tables: &mut Tables<S>, alloc: Global) -> Result<(), TableFault>
     ensures { IsMadeReady S.Store tables.old tables.new result }
 {
-    laws::reached_histories_are_kept(); // proof only
     pid_tables::laws::all_is_committed_outside_transactions(&tables.conn); // proof only
     match tables.migrate(alloc) {
         Err(fault) => Err(fault),
@@ -98,7 +95,10 @@ pub fn open<S: Alter + Drop>(
             live: true,
             alloc,
         }),
-        Err(fault) => Err((fault, tables.into_conn())),
+        Err(fault) => {
+            drop(kept);
+            Err((fault, tables.into_conn()))
+        }
     }
 }
 
@@ -119,7 +119,6 @@ pub fn migrate<S: Alter + Drop>(
     ensures shown { conn.in_transaction ≡ false → MovesShown S.Store conn result }
     ensures judged { conn.in_transaction ≡ false → MovesJudged S.Store conn result }
 {
-    laws::reached_histories_are_kept(); // proof only
     if !conn.is_autocommit() {
         return Err((TableFault::Store, conn));
     }

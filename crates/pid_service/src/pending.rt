@@ -5,7 +5,6 @@ ghost use Rattle.pid_moderation.specs.QueuePages.{queue_in, queued_of};
 ghost use Rattle.pid_service.specs.KeptViews.{HoldsPending};
 ghost use Rattle.pid_service.specs.Steps.Asking.{Finds, ReadsIn};
 
-use crate::laws;
 use crate::pending_numbers::{numbers_above, read_pending_numbers};
 use crate::registry::Registry;
 use pid_moderation::{PAGE, Pending, Queued, Refusal};
@@ -61,10 +60,6 @@ impl<S: Alter + Drop> Registry<S> {
     {
         if !self.live {
             return Err(Refusal::Failed);
-        }
-        laws::reached_histories_are_kept(); // proof only
-        if self.kept.pending.is_some() {
-            return Ok(());
         }
         if self.kept.pending_read {
             return Ok(());

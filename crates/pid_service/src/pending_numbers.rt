@@ -70,18 +70,21 @@ pub(crate) fn read_pending_numbers<S: Alter + Drop>(
     ensures { ReadsIn S.Store tables.old tables.new result
         (λ v numbers. HoldsPending numbers v) }
 {
-    pid_tables::lists::laws::pending_go_on(); // proof only
     let mut numbers = Vec::new(alloc);
     let mut after = 0;
     for _ in 0..PAGES {
         let page = tables.pending_page(alloc, after)?;
-        if !add_numbers(&mut numbers, page.as_slice()) {
+        let listed = page.as_slice();
+        let added = add_numbers(&mut numbers, listed);
+        let is_last = listed.len() < PAGE;
+        after = last_number(after, listed);
+        drop(page);
+        if !added {
             return Ok(None);
         }
-        if page.len() < PAGE {
+        if is_last {
             return Ok(Some(numbers));
         }
-        after = last_number(after, page.as_slice());
     }
     Ok(None)
 }
@@ -106,7 +109,6 @@ pub(crate) fn count_pending<S: Alter + Drop>(
     ensures { ReadsIn S.Store tables.old tables.new result
         (λ v n. HoldsPending numbers.now v → n ≡ length (pending_above 0 v)) }
 {
-    pid_tables::lists::laws::pending_go_on(); // proof only
     if let Some(numbers) = numbers {
         return match u32::try_from(numbers.len()) {
             Ok(count) => Ok(count),
@@ -117,14 +119,18 @@ pub(crate) fn count_pending<S: Alter + Drop>(
     let mut after = 0;
     for _ in 0..u32::MAX {
         let page = tables.pending_page(alloc, after)?;
-        let Some(more) = count_page(count, page.as_slice()) else {
+        let listed = page.as_slice();
+        let more = count_page(count, listed);
+        let is_last = listed.len() < PAGE;
+        after = last_number(after, listed);
+        drop(page);
+        let Some(more) = more else {
             return Err(TableFault::Memory);
         };
-        if page.len() < PAGE {
+        if is_last {
             return Ok(more);
         }
         count = more;
-        after = last_number(after, page.as_slice());
     }
     Err(TableFault::Memory)
 }

@@ -1,67 +1,50 @@
 //! What is asked for again and again is read before it is asked for.
-ghost use Rattle.std.specs.Prelude.{◌≡◌, ◌⊎◌, Ok, Err};
+ghost use Rattle.std.specs.Prelude.{◌≡◌, ◌⊎◌, Ok, Err, MatchResult};
 ghost use Rattle.pid_service.specs.Asking.{Answers};
 ghost use Rattle.pid_service.specs.Steps.Asking.{Finds};
 
 use crate::registry::Registry;
-use pid_moderation::Refusal;
+use pid_moderation::{Refusal, Status};
 use pid_service_laws::RegistryQueries;
 use sqlite::Alter;
 
 // How many commands change fewer items than a page has, if none is an import.
 const COMMANDS: u64 = 99;
 
-// A part of what is kept in memory.
+// A part of what is kept in memory: with the items that were changed last comes how many accounts
+// there are.
 enum Part {
     Pending,
-    Accounts,
+    Changes,
     Numbers,
     Top,
-    Changes,
     Text,
 }
 
-const PARTS: [Part; 6] = [
+const PARTS: [Part; 5] = [
     Part::Pending,
-    Part::Accounts,
+    Part::Changes,
     Part::Numbers,
     Part::Top,
-    Part::Changes,
     Part::Text,
 ];
 
-// What a question is refused for, but that memory ran out.
-fn unless_short(refusal: Refusal) -> Result<(), Refusal>
-    ensures { (result ≡ Err refusal) ⊎ ((refusal ≡ Refusal.Memory) × (result ≡ Ok tt)) }
+// What a question was refused for, but that memory ran out. Its answer is dropped.
+fn unless_short<T: Drop>(found: Result<T, Refusal>) -> Result<(), Refusal>
+    ensures { MatchResult found (λ _. result ≡ Ok tt)
+        (λ e. (result ≡ Err e) ⊎ ((e ≡ Refusal.Memory) × (result ≡ Ok tt))) }
 {
-    match refusal {
-        Refusal::Memory => Ok(()),
-        _ => Err(refusal),
+    match found {
+        Ok(found) => {
+            drop(found);
+            Ok(())
+        }
+        Err(Refusal::Memory) => Ok(()),
+        Err(refusal) => Err(refusal),
     }
 }
 
 impl<S: Alter + Drop> Registry<S> {
-    // Keeps the items that the last commands changed, of which a page has room for all.
-    fn keep_changes(&mut self) -> Result<(), Refusal>
-        ensures { Finds S.Store self.old self.new result (λ h _. Unit {0}) }
-    {
-        // Above the greatest number no item is looked at.
-        match self.changes(u64::MAX, None) {
-            Ok(present) => {
-                let since = present.revision.saturating_sub(COMMANDS);
-                drop(present);
-                match self.changes(since, None) {
-                    Ok(changes) => {
-                        drop(changes);
-                        Ok(())
-                    }
-                    Err(refusal) => unless_short(refusal),
-                }
-            }
-            Err(refusal) => unless_short(refusal),
-        }
-    }
-
     // Keeps a part, if memory is there for it.
     fn keep(&mut self, part: &Part) -> Result<(), Refusal>
         ensures { Finds S.Store self.old self.new result (λ h _. Unit {0}) }
@@ -69,22 +52,15 @@ impl<S: Alter + Drop> Registry<S> {
         match part {
             Part::Pending => self.keep_pending(),
             Part::Numbers => self.keep_numbers(true),
-            Part::Top => match self.children(None) {
-                Ok(items) => {
-                    drop(items);
-                    Ok(())
+            Part::Top => unless_short(self.children(None)),
+            Part::Changes => match self.status() {
+                Ok(status) => {
+                    let since = status.revision.saturating_sub(COMMANDS);
+                    unless_short(self.changes(since, None))
                 }
-                Err(refusal) => unless_short(refusal),
+                Err(refusal) => unless_short::<Status>(Err(refusal)),
             },
-            Part::Changes => self.keep_changes(),
-            Part::Text => match self.export_length() {
-                Ok(_) => Ok(()),
-                Err(refusal) => unless_short(refusal),
-            },
-            Part::Accounts => match self.status() {
-                Ok(_) => Ok(()),
-                Err(refusal) => unless_short(refusal),
-            },
+            Part::Text => unless_short(self.export_length()),
         }
     }
 

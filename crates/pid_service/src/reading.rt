@@ -2,7 +2,6 @@
 ghost use Rattle.std.specs.Prelude.{◌≡◌};
 ghost use Rattle.pid_service.specs.Steps.Asking.{Finds, answered_as};
 
-use crate::laws;
 use crate::registry::Registry;
 use pid_moderation::Refusal;
 use pid_tables::searches::Searches;
@@ -28,7 +27,6 @@ impl<S: Alter + Drop> Registry<S> {
         if !self.live {
             return Err(Refusal::Failed);
         }
-        laws::reached_histories_are_kept(); // proof only
         if !wanted {
             return Ok(());
         }

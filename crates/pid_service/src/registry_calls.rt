@@ -13,7 +13,6 @@ ghost use Rattle.pid_service.specs.LookingUp.{IsLookedUp};
 ghost use Rattle.pid_service.specs.Obeying.{IsObeyed};
 ghost use Rattle.pid_service.specs.Registries.{is_live as registry_is_live};
 
-use crate::laws;
 use crate::reading::fault_as_refusal;
 use crate::registry::Registry;
 use pid_ident::{Name, Output, Path};
@@ -43,7 +42,6 @@ impl<S: Alter + Drop> RegistryCalls for Registry<S> {
             (obeyed (asks command) result (registry_is_live self.new)) self.new }
         ensures own { IsObeyed S.Store self.old self.new command result }
     {
-        laws::clauses_meet_sessions::<S>(); // proof only
         let answer = self.obey_lent(&command);
         drop(command);
         answer
@@ -57,7 +55,6 @@ impl<S: Alter + Drop> RegistryCalls for Registry<S> {
         if !self.live {
             return Err(Refusal::Failed);
         }
-        laws::reached_histories_are_kept(); // proof only
         fault_as_refusal(self.tables.item(self.alloc, path))
     }
 

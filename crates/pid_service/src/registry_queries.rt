@@ -22,10 +22,9 @@ ghost use Rattle.pid_service.specs.Importing.{EndLasts};
 ghost use Rattle.pid_service.specs.Sessions.{showing as registry_showing};
 ghost use Rattle.pid_service.specs.Registries.{is_live as lives};
 
-use crate::changes::{kept_after, kept_page};
+use crate::changes::{keep_page, kept_page};
 use crate::importing::{answer_past, import_command};
 use crate::items_text::{ItemsText, items_text};
-use crate::laws;
 use crate::pending::{pending_by, queue_by};
 use crate::reading::fault_as_refusal;
 use crate::registry::Registry;
@@ -47,7 +46,6 @@ impl<S: Alter + Drop> RegistryQueries for Registry<S> {
         if !self.live {
             return Err(Refusal::Failed);
         }
-        laws::reached_histories_are_kept(); // proof only
         fault_as_refusal(self.tables.rank(who.as_str()))
     }
 
@@ -59,9 +57,19 @@ impl<S: Alter + Drop> RegistryQueries for Registry<S> {
             (λ h items. map pair_of items.items
             ≡ children_of (option_map path_text above) (items_of h)) }
     {
-        match above {
-            None => self.top(),
-            Some(_) => self.children_below(above),
+        if !self.live {
+            return Err(Refusal::Failed);
+        }
+        if let Some(items) = self.kept.children(self.alloc, above) {
+            self.kept.keep_top(self.alloc, above, items.as_slice());
+            return Ok(items);
+        }
+        match self.tables.children(self.alloc, above) {
+            Ok(items) => {
+                self.kept.keep_top(self.alloc, above, items.as_slice());
+                Ok(items)
+            }
+            Err(fault) => Err(refusal_of(fault)),
         }
     }
 
@@ -72,7 +80,6 @@ impl<S: Alter + Drop> RegistryQueries for Registry<S> {
         if !self.live {
             return Err(Refusal::Failed);
         }
-        laws::reached_histories_are_kept(); // proof only
         match self.tables.submission(self.alloc, number) {
             Ok(Some(found)) => Ok(found),
             Ok(None) => Err(Refusal::NoSubmission),
@@ -88,7 +95,6 @@ impl<S: Alter + Drop> RegistryQueries for Registry<S> {
         if !self.live {
             return Err(Refusal::Failed);
         }
-        laws::reached_histories_are_kept(); // proof only
         match self.tables.remark_page(self.alloc, number, after) {
             Ok(Some(page)) => Ok(page),
             Ok(None) => Err(Refusal::NoSubmission),
@@ -114,7 +120,6 @@ impl<S: Alter + Drop> RegistryQueries for Registry<S> {
               before = before;
             }) (views_of h)) }
     {
-        laws::reached_histories_are_kept(); // proof only
         match self.keep_numbers(path.is_some() || author.is_some()) {
             Ok(()) => fault_as_refusal(
                 self.tables
@@ -134,7 +139,6 @@ impl<S: Alter + Drop> RegistryQueries for Registry<S> {
         ensures { Answers S.Store self.old self.new result
             (λ h page. map told_of page.items ≡ pending_in PAGE after (views_of h)) }
     {
-        laws::reached_histories_are_kept(); // proof only
         match self.keep_pending() {
             Ok(()) => fault_as_refusal(pending_by(
                 &mut self.tables,
@@ -150,7 +154,6 @@ impl<S: Alter + Drop> RegistryQueries for Registry<S> {
         ensures { Answers S.Store self.old self.new result
             (λ h queue. map queued_of queue.items ≡ queue_in PAGE after (views_of h)) }
     {
-        laws::reached_histories_are_kept(); // proof only
         match self.keep_pending() {
             Ok(()) => fault_as_refusal(queue_by(
                 &mut self.tables,
@@ -178,8 +181,6 @@ impl<S: Alter + Drop> RegistryQueries for Registry<S> {
         if !self.live {
             return Err(Refusal::Failed);
         }
-        laws::reached_histories_are_kept(); // proof only
-        pid_moderation::laws::sinces_are_last_changes(); // proof only
         let start = after.copied();
         match self.tables.revision() {
             Err(fault) => Err(refusal_of(fault)),
@@ -193,9 +194,8 @@ impl<S: Alter + Drop> RegistryQueries for Registry<S> {
                 }
                 match self.tables.changes_page(self.alloc, since, after) {
                     Ok(changes) => {
-                        let kept = self.kept.changes.take();
                         let page = changes.items.as_slice();
-                        self.kept.changes = kept_after(self.alloc, kept, since, start, page);
+                        keep_page(self.alloc, &mut self.kept.changes, since, start, page);
                         Ok(changes)
                     }
                     Err(fault) => Err(refusal_of(fault)),
@@ -210,8 +210,6 @@ impl<S: Alter + Drop> RegistryQueries for Registry<S> {
         ensures { Answers S.Store self.old self.new result
             (λ h status. registry_status_of status ≡ status_of_registry h) }
     {
-        laws::reached_histories_are_kept(); // proof only
-        pid_moderation::laws::views_tell_status(); // proof only
         match self.keep_pending() {
             Ok(()) => match status_by(
                 &mut self.tables,
@@ -238,8 +236,6 @@ impl<S: Alter + Drop> RegistryQueries for Registry<S> {
         if !self.live {
             return Err(Refusal::Failed);
         }
-        laws::reached_histories_are_kept(); // proof only
-        laws::items_print_as_their_tree(); // proof only
         if let Some(text) = &self.kept.items.text {
             return Ok(text.bytes.len() as u64);
         }
@@ -270,7 +266,6 @@ impl<S: Alter + Drop> RegistryQueries for Registry<S> {
         ensures reads { InputIsRead I.Input input.old input.new result }
         ensures lasts { EndLasts S.Store self.old self.new (import_of account key) result }
     {
-        laws::clauses_meet_sessions::<S>(); // proof only
         if !self.live {
             return answer_past(false, Err(Refusal::Failed), input);
         }

@@ -178,22 +178,17 @@ fn put_lines(
     }
     let before = path_before(place, path, place.there);
     let now = path_before(place, path, !new.extents.is_empty());
-    opens_the_same(before, now, &text.extents.as_slice()[place.after..])
-        && put(
-            alloc,
-            &mut text.bytes,
-            place.start,
-            place.end,
-            new.buffer.taken.as_slice(),
-        )
-        && put(
-            alloc,
-            &mut text.extents,
-            place.index,
-            place.after,
-            new.extents.as_slice(),
-        )
-        && text.bytes.len() <= MOST_BYTES
+    let same = opens_the_same(before, now, &text.extents.as_slice()[place.after..]);
+    if !same {
+        return false;
+    }
+    let lines = new.buffer.taken.as_slice();
+    if !put(alloc, &mut text.bytes, place.start, place.end, lines) {
+        return false;
+    }
+    let extents = new.extents.as_slice();
+    let done = put(alloc, &mut text.extents, place.index, place.after, extents);
+    done && text.bytes.len() <= MOST_BYTES
 }
 
 // Writes an item into the text of all.
@@ -215,28 +210,28 @@ fn renew(alloc: Global, text: &mut KeptText, write: &Write) -> bool
     }
 }
 
-/// The text of all items after a change. None after an import, if memory runs out, and if the
-/// first generic subsystem of a vendor comes or goes before another one, which is rare.
-pub(crate) fn text_after(alloc: Global, text: Option<KeptText>, effect: &Effect) -> Option<KeptText>
-    ensures { (n : ℕ) (v : Views) → AreViews v → HoldsText text v.items
-        → HoldsText result (affected n effect.now v).items }
+/// Renews the text of all items after a change. None is kept after an import, if memory runs out,
+/// and if the first generic subsystem of a vendor comes or goes before another one, which is rare.
+pub(crate) fn follow_text(alloc: Global, kept: &mut Option<KeptText>, effect: &Effect)
+    ensures { (n : ℕ) (v : Views) → AreViews v → HoldsText kept.old v.items
+        → HoldsText kept.new (affected n effect.now v).items }
 {
+    let Some(text) = kept else {
+        return;
+    };
     match effect {
         Effect::Decided { write, .. } => match write {
             Some(write) => {
-                let mut text = text?;
-                if renew(alloc, &mut text, write) {
-                    Some(text)
-                } else {
-                    None
+                if !renew(alloc, text, write) {
+                    *kept = None;
                 }
             }
-            None => text,
+            None => {}
         },
-        Effect::Imported { .. } => None,
+        Effect::Imported { .. } => *kept = None,
         Effect::Nothing
         | Effect::Ranked { .. }
         | Effect::Submitted { .. }
-        | Effect::Remarked { .. } => text,
+        | Effect::Remarked { .. } => {}
     }
 }

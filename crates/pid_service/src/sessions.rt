@@ -20,7 +20,6 @@ ghost use Rattle.pid_service.specs.SessionLaws.{
   RepeatsEndDoubts,
 };
 
-use crate::laws;
 use pid_ident::Output;
 use sqlite::Alter;
 
@@ -55,9 +54,7 @@ pub fn histories_are_kept<S: Alter + Drop>()
 /// `first_openings_show_what_is_there` and `histories_are_kept` go on from there.
 pub fn migrations_find_histories<S: Alter + Drop>()
     ensures { EarlierTablesShow S.Store }
-{
-    pid_moderation::laws::taken_files_begin_anew(); // proof only
-}
+{}
 
 /// From the end of a session to the next opening, which may be over another store: each process
 /// has a store of its own.
@@ -88,12 +85,7 @@ pub fn histories_are_kept_between<S: Alter + Drop, T: Alter + Drop, U: Alter + D
 /// over the same tree. All while the disk returns what was written.
 pub fn reopened_registries_show_prefixes<S: Alter + Drop, T: Alter + Drop>()
     ensures { ReopeningsShowPrefixes S.Store T.Store }
-{
-    pid_moderation::laws::keys_stand_once(); // proof only
-    pid_moderation::laws::marks_stay(); // proof only
-    laws::reached_histories_are_kept(); // proof only
-    pid_reader::laws::printed_trees_read_back(); // proof only
-}
+{}
 
 /// The headline: sessions on a registry lead to its end, which may be a stop anywhere; openings that
 /// fail, migrations and further stops may follow. The registry that is opened next shows the
@@ -103,10 +95,7 @@ pub fn reopened_registries_show_prefixes<S: Alter + Drop, T: Alter + Drop>()
 /// the law again, one session later. All while the disk returns what was written.
 pub fn openings_tell_prefixes<S: Alter + Drop, T: Alter + Drop, O: Output>()
     ensures { OpeningsTellPrefixes S.Store T.Store O.Output }
-{
-    laws::openings_find_histories::<S, T>(); // proof only
-    laws::reopened_registries_show_prefixes::<S, T>(); // proof only
-}
+{}
 
 /// A command under a key was in doubt as a registry failed, and after the next opening it is sent
 /// again, as the first with an outcome. Then its outcome is that of the judgement before the doubt,

@@ -1,16 +1,16 @@
 //! The vendors and the classes with their names, as a registry keeps them in memory.
-ghost use Rattle.std.specs.Prelude.{◌≡◌, ◌∷◌, [], ℕ, true, false, IfSome, map};
+ghost use Rattle.std.specs.Prelude.{◌≡◌, ◌∷◌, [], ℕ, true, false, IfSome, map, option_map};
+ghost use Rattle.pid_file.specs.PathTexts.{path_text};
 ghost use Rattle.pid_moderation.specs.Changes.{affected};
+ghost use Rattle.pid_moderation.specs.Children.{children_of};
 ghost use Rattle.pid_moderation.specs.ItemPairs.{pair_of};
-ghost use Rattle.pid_moderation.specs.Views.{Views, views_of};
-ghost use Rattle.pid_service.specs.KeptViews.{HoldsTop, top_of};
-ghost use Rattle.pid_service.specs.Steps.Asking.{Finds};
+ghost use Rattle.pid_moderation.specs.Views.{Views};
+ghost use Rattle.pid_service.specs.KeptViews.{HoldsTop, IsRightFor, top_of};
 ghost use Rattle.pid_tables.specs.Lists.Steps.Adding.{Adds};
 
-use crate::registry::Registry;
-use pid_ident::NameText;
-use pid_moderation::{Effect, Item, Refusal};
-use sqlite::Alter;
+use crate::kept_views::KeptViews;
+use pid_ident::{NameText, Path};
+use pid_moderation::{Effect, Item};
 use std::alloc::Global;
 
 // Whether a change may write a vendor or a class.
@@ -31,11 +31,15 @@ fn writes_top(effect: &Effect) -> bool
     }
 }
 
-/// The vendors and the classes after a change; none if it may write one of them.
-pub(crate) fn top_after(top: Option<Vec<Item>>, effect: &Effect) -> Option<Vec<Item>>
-    ensures { (n : ℕ) (v : Views) → HoldsTop top v → HoldsTop result (affected n effect.now v) }
+/// Keeps the vendors and the classes through a change, unless it may write one of them.
+pub(crate) fn follow_top(top: &mut Option<Vec<Item>>, effect: &Effect)
+    ensures { (n : ℕ) (v : Views) → HoldsTop top.old v
+        → HoldsTop top.new (affected n effect.now v) }
 {
-    if writes_top(effect) { None } else { top }
+    if !writes_top(effect) {
+        return;
+    }
+    *top = None;
 }
 
 // Adds a copy of an item, if memory is there.
@@ -51,8 +55,8 @@ fn add_copy(copy: &mut Vec<Item>, item: &Item) -> bool
     }
 }
 
-// The items once more. None if memory runs out.
-fn copied(alloc: Global, items: &[Item]) -> Option<Vec<Item>>
+/// The items once more. None if memory runs out.
+pub(crate) fn copied(alloc: Global, items: &[Item]) -> Option<Vec<Item>>
     ensures { IfSome result (λ copy. map pair_of copy.items ≡ map pair_of items.now) }
 {
     let mut copy = Vec::new(alloc);
@@ -64,28 +68,20 @@ fn copied(alloc: Global, items: &[Item]) -> Option<Vec<Item>>
     Some(copy)
 }
 
-impl<S: Alter + Drop> Registry<S> {
-    /// The vendors and the classes. If they are not kept in memory they are read, and they are kept
-    /// from then on, if memory is there for them.
-    pub(crate) fn top(&mut self) -> Result<Vec<Item>, Refusal>
-        ensures { Finds S.Store self.old self.new result
-            (λ h items. map pair_of items.items ≡ top_of (views_of h)) }
+impl KeptViews {
+    /// Keeps a copy of what is at the top, if that was asked for and memory is there for it.
+    pub(crate) fn keep_top(&mut self, alloc: Global, above: Option<Path>, items: &[Item])
+        ensures { (v : Views) → IsRightFor self.old v
+            → map pair_of items.now ≡ children_of (option_map path_text above) v.items
+            → IsRightFor self.new v }
     {
-        if !self.live {
-            return Err(Refusal::Failed);
-        }
-        if let Some(top) = &self.kept.top {
-            return match copied(self.alloc, top.as_slice()) {
-                Some(items) => Ok(items),
-                None => Err(Refusal::Memory),
-            };
-        }
-        match self.children_below(None) {
-            Ok(items) => {
-                self.kept.top = copied(self.alloc, items.as_slice());
-                Ok(items)
+        match above {
+            None => {
+                if self.top.is_none() {
+                    self.top = copied(alloc, items);
+                }
             }
-            Err(refusal) => Err(refusal),
+            Some(_) => {}
         }
     }
 }

@@ -64,12 +64,6 @@ module _ {S : Type 0} (store : Ghosts S) where
     pub limit : KeepsLimit store old new
     pub reads : InputIsRead input before after result
 
-  -- what becomes of it at an import of bytes
-  pub record BytesStay (old new : Registry S store) (result : Result Reply Refusal) : Type 0 where
-    pub clean : HasCleanDisk store new → HasCleanDisk store old
-    pub live : StaysLive result (is_live old) (is_live new)
-    pub limit : KeepsLimit store old new
-
   -- the registry shows a history, over which the import depends on its file, and it can go on
   pub record HangsOnFile (r : Registry S store) (facts : Facts) (items : ℕ) (command : Command)
       (h : History) (c : Asked) : Type 0 where
@@ -92,13 +86,6 @@ module _ {S : Type 0} (store : Ghosts S) where
   TakesText old new result command text = OverHistory store old new
       (λ h. is_import command.act ≡ true
       → ObeysImport store result new h (asked command (file_reading text)))
-
-  -- this holds of an import of these bytes, which are not too many
-  abbrev pub OverBytes : Registry S store → Registry S store → Command → List ℕ
-      → (History → Asked → Type 0) → Type 0
-  OverBytes old new command file Holds = OverHistory store old new
-      (λ h. is_import command.act ≡ true → length file ≤ most_file_bytes
-      → Holds h (asked command (file_reading file)))
 
   -- this is said of what a fault of an import stands for, over the history that was shown, whatever
   -- file it is taken to have

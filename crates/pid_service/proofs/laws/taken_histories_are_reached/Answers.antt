@@ -1,4 +1,5 @@
 use Rattle.std.proofs.Common.{sym, arith}
+use Rattle.pid_moderation.proofs.RevisionLemmas.{same_after_all, taken_marked}
 use Rattle.pid_service.proofs.Words.{accepted_count, after_all, Begins}
 use Rattle.pid_service.proofs.laws.taken_histories_are_reached.Goals as goal
 
@@ -8,6 +9,6 @@ returns c mark commands made few = let h = after_all (Begins mark) commands in
       mark = accepted_count h;
       commands = commands;
       made = made;
-      reached = sym (c.marks_judge_nothing.ensures.after (accepted_count h) (Begins mark) commands (omega (arith, few)));
-      marked = c.taken_files_begin_anew.ensures.marked h;
+      reached = sym (same_after_all (accepted_count h) (Begins mark) commands (omega (arith, few)));
+      marked = taken_marked h;
     }

@@ -3,6 +3,7 @@ use Rattle.pid_tables.proofs.OfRows.LeaveLemmas.{rests_in_two}
 use Rattle.pid_tables.proofs.OfRows.OnlyReading.{reads_then}
 use Rattle.pid_service.proofs.Words.{Explains, IsNotNewerSchema, seen, state, views_of}
 use Rattle.pid_service.proofs.Opened.{back_after, brought_reads, committed_then_reads, explained_now, explains_now, judged_now, judged_ready, kept_ok, made_then_reads, moved_then_reads, once_then_reads, refused_reads, step_shown, step_rests, still_views, told_then}
+use Rattle.pid_service.proofs.Reached.{reached_sound}
 use Rattle.pid_service.proofs.opening.make_ready.Goals as goal
 
 -- ---- a migration that failed
@@ -21,7 +22,7 @@ returns-in-Err g c = record {
   };
   ready = λ clean h reached shown.
       let old = state g.S.Store c.args.tables.now.conn in
-      let sound = c.reached_histories_are_kept.ensures.sound h reached in
+      let sound = reached_sound h reached in
       step_shown old (state g.S.Store c.migrate.new.self.conn) h c.in-Err.fault shown
       (record {
         created = λ bare. c.in-Err.ensures.shown.created clean bare;
@@ -65,7 +66,7 @@ returns-in-Ok g c = record {
       };
   ready = λ clean h reached shown.
       let old = state g.S.Store c.args.tables.now.conn in
-      let sound = c.reached_histories_are_kept.ensures.sound h reached in
+      let sound = reached_sound h reached in
       let mid = c.judge_tables.ensures.rests.clean clean in
       let rest = step_rests old (state g.S.Store c.migrate.new.self.conn) h c.in-Ok.field-0 shown
       (record {

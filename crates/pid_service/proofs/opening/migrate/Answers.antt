@@ -6,6 +6,7 @@ use Rattle.pid_service.proofs.Words.{Ghosts, Held, MovesAtOnce, MovesJudged, Mov
 use Rattle.pid_service.proofs.Keeping.{true_not}
 use Rattle.pid_service.proofs.Opened.{moved, seen_back}
 use Rattle.pid_file.proofs.OneMoreLine.{not_false, not_true}
+use Rattle.pid_service.proofs.Reached.{reached_sound}
 use Rattle.pid_service.proofs.opening.migrate.Goals as goal
 
 -- what is so of a connection is so of tables over it
@@ -14,17 +15,21 @@ settled_still store same settled = subst (λ x. IsTrue (state store x).is_open �
 
 -- ---- within a transaction
 
-pub returns-then-not-is_autocommit-clause-busy : goal.returns-then-not-is_autocommit-clause-busy
-returns-then-not-is_autocommit-clause-busy g c on = refl
-
-pub returns-then-not-is_autocommit-clause-at_once : goal.returns-then-not-is_autocommit-clause-at_once
-returns-then-not-is_autocommit-clause-at_once g c = true_not c.args.conn.in_transaction (not_false c.args.conn.in_transaction (sym c.is_autocommit.ensures.value ∙ c.if-not-is_autocommit.true))
-
-pub returns-then-not-is_autocommit-clause-shown : goal.returns-then-not-is_autocommit-clause-shown
-returns-then-not-is_autocommit-clause-shown g c = true_not c.args.conn.in_transaction (not_false c.args.conn.in_transaction (sym c.is_autocommit.ensures.value ∙ c.if-not-is_autocommit.true))
-
-pub returns-then-not-is_autocommit-clause-judged : goal.returns-then-not-is_autocommit-clause-judged
-returns-then-not-is_autocommit-clause-judged g c = true_not c.args.conn.in_transaction (not_false c.args.conn.in_transaction (sym c.is_autocommit.ensures.value ∙ c.if-not-is_autocommit.true))
+pub returns-then-not-is_autocommit : goal.returns-then-not-is_autocommit
+returns-then-not-is_autocommit g c =
+    let within = not_false c.args.conn.in_transaction (sym c.is_autocommit.ensures.value ∙ c.if-not-is_autocommit.true) in
+    record {
+      busy = λ on. refl;
+      history = record {
+        clean = λ clean. clean;
+        created = λ bare clean. (tt, inr (inr (bare, refl)));
+        moved = λ h reached older clean. (tt, inr (inl older));
+        already = λ h reached rest clean. (tt, inl rest);
+      };
+      at_once = true_not c.args.conn.in_transaction within;
+      shown = true_not c.args.conn.in_transaction within;
+      judged = true_not c.args.conn.in_transaction within;
+    }
 
 pub returns-in-Ok : goal.returns-in-Ok
 returns-in-Ok g c = record {
@@ -34,7 +39,7 @@ returns-in-Ok g c = record {
       (record {
         clean = c.migrate-moved.ensures.at_once.clean;
         created = λ bare clean. c.in-Ok.ensures.shown.created clean bare;
-        moved = λ h reached older clean. c.in-Ok.ensures.shown.moved clean h (c.reached_histories_are_kept.ensures.sound h reached) older;
+        moved = λ h reached older clean. c.in-Ok.ensures.shown.moved clean h (reached_sound h reached) older;
         already = λ h reached rest clean.
             let so = c.in-Ok.ensures.shown.already clean (views_of h) (rests_in_two (state g.S.Store c.new-tables.result.conn) (views_of h) rest) in
             (so.0, so.1.kept (views_of h) rest);
@@ -81,7 +86,7 @@ returns-in-Err g c = record {
       (record {
         clean = c.migrate-moved.ensures.at_once.clean;
         created = λ bare clean. let so = c.in-Err.ensures.shown.created clean bare in (so.0, inr (inr (so.1, refl)));
-        moved = λ h reached older clean. let so = c.in-Err.ensures.shown.moved clean h (c.reached_histories_are_kept.ensures.sound h reached) older in (so.0, inr (inl so.1));
+        moved = λ h reached older clean. let so = c.in-Err.ensures.shown.moved clean h (reached_sound h reached) older in (so.0, inr (inl so.1));
         already = λ h reached rest clean.
             let so = c.in-Err.ensures.shown.already clean (views_of h) (rests_in_two (state g.S.Store c.new-tables.result.conn) (views_of h) rest) in
             (so.0, inl (so.1.kept (views_of h) rest));

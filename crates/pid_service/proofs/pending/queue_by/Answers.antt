@@ -1,5 +1,6 @@
 use Rattle.std.proofs.Common.{◌≡◌, map, ap, subst, ◌∙◌}
-use Rattle.pid_service.proofs.Words.{entry_in, HoldsPending, numbers_pending}
+use Rattle.pid_service.proofs.Words.{entry_in, HoldsPending, numbers_pending, state}
+use Rattle.pid_tables.proofs.OfCheck.Asking.{nothing_read}
 use Rattle.pid_service.proofs.PendingNumbers.{page_numbered}
 use Rattle.pid_service.proofs.Questions.{reads_as}
 use Rattle.pid_service.proofs.pending.queue_by.Goals as goal
@@ -15,3 +16,6 @@ returns-in-Some-numbers_above g c =
     told
     ∙ ap (map (entry_in v)) (page_numbered v 100 c.args.after c.as_slice.result.now c.as_slice-in-Some-numbers_above.result.now (c.as_slice.ensures.value ∙ held) (c.as_slice-in-Some-numbers_above.ensures.value ∙ c.in-Some-numbers_above.ensures)))
     c.queue_at.ensures
+
+pub returns-in-None : goal.returns-in-None
+returns-in-None g c = record { rests = nothing_read (state g.S.Store c.args.tables.now.conn) c.args.tables.now.settled; told = λ clean v rest readable. tt }

@@ -1,8 +1,8 @@
-use Rattle.std.proofs.Common.{◌≡◌, ◌<◌, ◌++◌, map, length, true, ap, sym, ◌∙◌, rules}
+use Rattle.std.proofs.Common.{◌<◌, ◌++◌, map, length, ap, ◌∙◌, rules}
 use Rattle.pid_tables.proofs.OfRows.CauseLemmas.{caused_later, passed_on}
 use Rattle.pid_tables.proofs.OfRows.OnlyReading.{reads_then}
-use Rattle.pid_service.proofs.Words.{IsCaused, IsReadable, last_of, pending_number, state, told_of}
-use Rattle.pid_service.proofs.PendingNumbers.{last_page, next_page, pending_past}
+use Rattle.pid_service.proofs.Words.{IsCaused, IsReadable, state, told_of}
+use Rattle.pid_service.proofs.PendingNumbers.{last_page, next_page, pending_next, pending_past}
 use Rattle.pid_service.proofs.pending_numbers.read_pending_numbers.Goals as goal
 
 pub returns-in_err-page : goal.returns-in_err-page
@@ -20,24 +20,23 @@ returns-in_err-page g c =
     }
 
 -- too many, or no memory for them
-pub returns-then-not-add_numbers : goal.returns-then-not-add_numbers
-returns-then-not-add_numbers g c = record { rests = reads_then _ _ _ c.loop.invariant.0 c.in_ok-page.ensures.rests; told = λ clean v rest. tt }
+pub returns-then-not-added : goal.returns-then-not-added
+returns-then-not-added g c = record { rests = reads_then _ _ _ c.loop.invariant.0 c.in_ok-page.ensures.rests; told = λ clean v rest. tt }
 
 pub returns : goal.returns
 returns g c = record { rests = c.loop.invariant.0; told = λ clean v rest. tt }
 
 -- a page that is not full is the last
-pub returns-then-len-lt-PAGE : goal.returns-then-len-lt-PAGE
-returns-then-len-lt-PAGE g c =
+pub returns-then-is_last : goal.returns-then-is_last
+returns-then-is_last g c =
     let one = c.in_ok-page.ensures in
     let before = c.loop.invariant in
-    let on : c.add_numbers.result ≡ true = c.if-not-add_numbers.false in
-    let short : length c.as_slice.result.now < 100 = search rules in
+    let short : length c.as_slice-listed.result.now < 100 = search rules in
     record {
       rests = reads_then _ _ _ before.0 one.rests;
       told = λ clean v rest.
-          c.add_numbers.ensures on
-          ∙ last_page v 100 c.loop.after c.as_slice.result.now c.loop.numbers.items (ap (map told_of) c.as_slice.ensures.value ∙ one.told clean v (before.0.kept v rest)) short
+          c.add_numbers-added.ensures c.if-not-added.false
+          ∙ last_page v 100 c.loop.after c.as_slice-listed.result.now c.loop.numbers.items (ap (map told_of) c.as_slice-listed.ensures.value ∙ one.told clean v (before.0.kept v rest)) short
           ∙ before.1 (one.rests.clean clean) v rest;
     }
 
@@ -45,13 +44,11 @@ pub loop-preserved : goal.loop-preserved
 loop-preserved g c =
     let one = c.in_ok-page.ensures in
     let before = c.loop.invariant in
-    let on : c.add_numbers.result ≡ true = c.if-not-add_numbers.false in
-    let added = c.add_numbers.ensures on in
-    let same = c.as_slice-in-loop.ensures.value ∙ sym c.as_slice.ensures.value in
-    let last : c.last_number-after.result ≡ last_of pending_number c.loop.after (map told_of c.as_slice.result.now) = c.last_number-after.ensures ∙ ap (λ p. last_of pending_number c.loop.after (map told_of p)) same in (
+    let added = c.add_numbers-added.ensures c.if-not-added.false in
+    let last = c.last_number-after.ensures in (
       reads_then _ _ _ before.0 one.rests,
       λ clean v rest.
           (λ i. added i ++ pending_past (last i) v)
-          ∙ next_page c.pending_go_on.ensures.next v 100 c.loop.after c.as_slice.result.now c.loop.numbers.items (ap (map told_of) c.as_slice.ensures.value ∙ one.told clean v (before.0.kept v rest))
+          ∙ next_page pending_next v 100 c.loop.after c.as_slice-listed.result.now c.loop.numbers.items (ap (map told_of) c.as_slice-listed.ensures.value ∙ one.told clean v (before.0.kept v rest))
           ∙ before.1 (one.rests.clean clean) v rest,
     )

@@ -17,8 +17,6 @@ still_text change v text holds = subst (λ (items : Items). HoldsText text items
 pub returns-then-not-writes_items : goal.returns-then-not-writes_items
 returns-then-not-writes_items c v views fits right =
     let change = c.args.change.now in
-    let taken : c.take-numbers.result ≡ c.args.self.now.pending = search rules in
-    let held : c.take-top.result ≡ c.args.self.now.top = search rules in
     let numbers : c.replace-kept.result ≡ c.args.self.now.numbers = search rules in
     let off : c.writes_items.result ≡ false = search rules in
     let same : (changed change v).items ≡ v.items = kept_items change.receipt (affected change.revision change.effect v) ∙ c.writes_items.ensures.spares change.revision v off in
@@ -27,9 +25,9 @@ returns-then-not-writes_items c v views fits right =
     record {
       names = items.0;
       text = items.1;
-      top = still_top change v _ (c.top_after.ensures change.revision v (subst (λ (o : Option (Vec Item Global)). HoldsTop o v) (sym held) right.top));
+      top = still_top change v _ (c.follow_top.ensures change.revision v right.top);
       changes = same_changes c.args.self.now.changes v (changed change v) same since right.changes;
-      pending = still_pending change v _ (c.pending_after.ensures change.revision v views fits.0 (subst (λ (o : Option (Vec ℕ Global)). HoldsPending o v) (sym taken) right.pending));
+      pending = still_pending change v _ (c.follow_pending.ensures change.revision v views fits.0 right.pending);
       numbers = still_numbers change v _ (c.numbers_after.ensures change.revision v fits.0 (subst (λ (n : Searches). HoldsNumbers n v) (sym numbers) right.numbers));
       accounts = still_accounts change v _ (c.accounts_after-self.ensures change.revision v fits.0 right.accounts);
     }
@@ -37,17 +35,13 @@ returns-then-not-writes_items c v views fits right =
 pub returns : goal.returns
 returns c v views fits right =
     let change = c.args.change.now in
-    let taken : c.take-numbers.result ≡ c.args.self.now.pending = search rules in
-    let held : c.take-top.result ≡ c.args.self.now.top = search rules in
     let numbers : c.replace-kept.result ≡ c.args.self.now.numbers = search rules in
-    let text : c.take-text.result ≡ c.args.self.now.items.text = search rules in
-    let changes : c.take-changes.result ≡ c.args.self.now.changes = search rules in
     record {
       names = c.clear.ensures.agrees (λ path. name_at path (changed change v).items);
-      text = still_text change v _ (c.text_after.ensures change.revision v views (subst (λ (o : Option KeptText). HoldsText o v.items) (sym text) right.text));
-      top = still_top change v _ (c.top_after.ensures change.revision v (subst (λ (o : Option (Vec Item Global)). HoldsTop o v) (sym held) right.top));
-      changes = still_changes change v _ (c.changes_after.ensures v views fits.0 (subst (λ (o : Option KeptChanges). HoldsChanges o v) (sym changes) right.changes));
-      pending = still_pending change v _ (c.pending_after.ensures change.revision v views fits.0 (subst (λ (o : Option (Vec ℕ Global)). HoldsPending o v) (sym taken) right.pending));
+      text = still_text change v _ (c.follow_text.ensures change.revision v views right.text);
+      top = still_top change v _ (c.follow_top.ensures change.revision v right.top);
+      changes = still_changes change v _ (c.changes_after.ensures v views fits.0 right.changes);
+      pending = still_pending change v _ (c.follow_pending.ensures change.revision v views fits.0 right.pending);
       numbers = still_numbers change v _ (c.numbers_after.ensures change.revision v fits.0 (subst (λ (n : Searches). HoldsNumbers n v) (sym numbers) right.numbers));
       accounts = still_accounts change v _ (c.accounts_after-self.ensures change.revision v fits.0 right.accounts);
     }

@@ -8,6 +8,8 @@ use Rattle.pid_service.proofs.Words.{connection, History, items_of, name_at, sta
 use Rattle.pid_service.proofs.Causes.{caused_by}
 use Rattle.pid_service.proofs.Keeping.{true_not}
 use Rattle.pid_service.proofs.Questions.{asked_then, caused_since}
+use Rattle.pid_moderation.proofs.WriteLemmas.{tree_entries}
+use Rattle.pid_service.proofs.Reached.{reached_readable}
 use Rattle.pid_service.proofs.names.RegistryNames.name_of.Goals as goal
 
 in_map : (text : List ℕ) (h : History) → entries (tree_of h) ≡ items_of h → name_at text (items_of h) ≡ get (tree_of h) text
@@ -20,7 +22,7 @@ of_some known name is same told = subst (λ (o : Option (Option (List ℕ))). If
 
 pub returns-in-Ok-Some-clause-found : goal.returns-in-Ok-Some-clause-found
 returns-in-Ok-Some-clause-found g c clean h shows =
-    of_some c.in-Ok-Some.field-0 c.in-Ok-Some.name _ (search rules) (c.in-Ok-Some.ensures.right (λ path. name_at path (items_of h)) (shows.kept clean).names) ∙ in_map (path_text c.args.path.now) h (c.trees_are_last_writes.ensures.entries h)
+    of_some c.in-Ok-Some.field-0 c.in-Ok-Some.name _ (search rules) (c.in-Ok-Some.ensures.right (λ path. name_at path (items_of h)) (shows.kept clean).names) ∙ in_map (path_text c.args.path.now) h (tree_entries h)
 
 pub returns-in-Ok-Some-clause-kept : goal.returns-in-Ok-Some-clause-kept
 returns-in-Ok-Some-clause-kept g c =
@@ -60,7 +62,7 @@ returns-in-Err-clause-kept g c =
 
 pub returns-in-Ok-clause-found : goal.returns-in-Ok-clause-found
 returns-in-Ok-clause-found g c clean h shows =
-    c.in-Ok.ensures.told clean (views_of h) shows.tables ∙ in_map (path_text c.args.path.now) h (c.trees_are_last_writes.ensures.entries h)
+    c.in-Ok.ensures.told clean (views_of h) shows.tables ∙ in_map (path_text c.args.path.now) h (tree_entries h)
 
 pub returns-in-Ok-clause-kept : goal.returns-in-Ok-clause-kept
 returns-in-Ok-clause-kept g c =
@@ -119,7 +121,7 @@ pub returns-in-Err-item-clause-caused : goal.returns-in-Err-item-clause-caused
 returns-in-Err-item-clause-caused g c clean h shows start asked =
     caused_since g.S.Store (connection start) c.args.self.now.tables.conn c.item.new.self.conn c.refusal_of.result asked.rests c.item.ensures.rests clean
     (caused_by g.S.Store c.args.self.now.tables.conn c.item.new.self.conn c.in-Err-item.fault c.refusal_of.result c.refusal_of.ensures.same
-    (c.in-Err-item.ensures.told clean (views_of h) shows.tables (c.reached_histories_are_kept.ensures.readable h shows.history)))
+    (c.in-Err-item.ensures.told clean (views_of h) shows.tables (reached_readable h shows.history)))
 
 pub returns-in-Err-clause-caused : goal.returns-in-Err-clause-caused
 returns-in-Err-clause-caused g c clean h shows start asked = tt

@@ -7,6 +7,7 @@ use Rattle.pid_service.proofs.ImportCauses.{refused_stays}
 use Rattle.pid_service.proofs.ForgottenItems.{all_left, import_leaves}
 use Rattle.pid_service.proofs.Keeping.{ok_not}
 use Rattle.pid_service.proofs.Lasting.{fault_alive}
+use Rattle.pid_service_laws.proofs.Judging.{outcome_of}
 use Rattle.pid_service.proofs.registry.Registry.carry_in.Goals as goal
 
 pub returns-in-Ok : goal.returns-in-Ok
@@ -75,7 +76,7 @@ returns-in-Err-Refused g c = record {
   caused = λ clean h shows marked import waits many.
       let is : c.in-Err-Refused.field-0 ≡ stops.Refused c.in-Err-Refused.refusal = search rules in
       let r = c.in-Err-Refused.ensures.stops in
-      refused_stays g.S.Store c.judgements_are_outcomes.ensures c.import_file.new.conn c.args.self.now.live h (asked c.args.command.now (file_reading r.0)) c.in-Err-Refused.field-0 c.in-Err-Refused.refusal is shows.lives (r.3 clean h shows.tables marked import waits many);
+      refused_stays g.S.Store outcome_of c.import_file.new.conn c.args.self.now.live h (asked c.args.command.now (file_reading r.0)) c.in-Err-Refused.field-0 c.in-Err-Refused.refusal is shows.lives (r.3 clean h shows.tables marked import waits many);
 }
 
 pub returns-in-Err-Failed : goal.returns-in-Err-Failed

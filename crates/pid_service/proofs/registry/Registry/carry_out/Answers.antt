@@ -1,6 +1,7 @@
 use Rattle.std.proofs.Common.{Ok, refl, rules, subst}
 use Rattle.pid_service.proofs.Words.{Judged, JudgesCommand, views_of}
 use Rattle.pid_service.proofs.Obeyed.{accepted, failed, kept}
+use Rattle.pid_service.proofs.Reached.{reached_views}
 use Rattle.pid_service.proofs.registry.Registry.carry_out.Goals as goal
 
 -- ---- a reply that was kept
@@ -19,7 +20,7 @@ returns-in-Ok g c = record {
   obeyed = λ h asks to.
       accepted g.S.Store c.args.self.now _ h asks c.in-Accepted.change c.in-Accepted.reply to.shows (subst (λ (j : Judged). JudgesCommand h asks (Ok j)) c.in-Accepted.is to.comes) to.reached
       (λ v rest fit. c.in-Ok.ensures.stands v rest fit) refl c.write.ensures.clean
-      (λ fits kept. c.follow.ensures (views_of h) (c.views_of_sound_histories.ensures.views h (c.reached_histories_are_kept.ensures.sound h to.shows.history)) fits kept);
+      (λ fits kept. c.follow.ensures (views_of h) (reached_views h to.shows.history) fits kept);
   repeated = search rules;
   held = record { clean = c.write.ensures.clean; live = refl; limit = c.write.ensures.limit };
 }

@@ -8,6 +8,7 @@ use Rattle.pid_service.proofs.Exported.{same_write, text_told, told_by, told_cau
 use Rattle.pid_service.proofs.Keeping.{ok_not, true_not}
 use Rattle.pid_service.proofs.CallsMet.{exported, failed_gives}
 use Rattle.pid_service.proofs.Obeyed.{only_read}
+use Rattle.pid_service.proofs.Reached.{reached_readable, reached_text}
 use Rattle.pid_service.proofs.registry.Registry.export_rows.Goals as goal
 
 -- ---- it has failed
@@ -35,7 +36,7 @@ returns-in-Ok g c = record {
   calls = looks g.S.Store c.args.self.now c.args.self.now (λ clean. clean) (true_not c.args.self.now.live c.if-not-self.false) (λ clean h shows. shows);
   shown = λ clean h shows. shows;
   printed = λ clean h shows.
-      let same : c.as_slice.result.now ≡ print (tree_of h) = c.as_slice.ensures.value ∙ text_told g.S.Store c.args.self.now h c.in-Some.text c.in-Some.is clean shows (c.items_print_as_their_tree.ensures h) in
+      let same : c.as_slice.result.now ≡ print (tree_of h) = c.as_slice.ensures.value ∙ text_told g.S.Store c.args.self.now h c.in-Some.text c.in-Some.is clean shows (reached_text h) in
       subst (λ (t : List ℕ). Appends (g.W.Output.taken c.args.output.now) (g.W.Output.taken c.write_all.new.out) t) same c.in-Ok.ensures.sent;
   refused = λ e. ok_not tt (Refused e);
   caused = λ clean h shows e. ok_not tt (Refused e);
@@ -50,7 +51,7 @@ returns-in-Err g c = record {
   calls = looks g.S.Store c.args.self.now c.args.self.now (λ clean. clean) (true_not c.args.self.now.live c.if-not-self.false) (λ clean h shows. shows);
   shown = λ clean h shows. shows;
   printed = λ clean h shows.
-      let same : c.as_slice.result.now ≡ print (tree_of h) = c.as_slice.ensures.value ∙ text_told g.S.Store c.args.self.now h c.in-Some.text c.in-Some.is clean shows (c.items_print_as_their_tree.ensures h) in
+      let same : c.as_slice.result.now ≡ print (tree_of h) = c.as_slice.ensures.value ∙ text_told g.S.Store c.args.self.now h c.in-Some.text c.in-Some.is clean shows (reached_text h) in
       subst (λ (t : List ℕ). SendsFront (g.W.Output.taken c.args.output.now) (g.W.Output.taken c.write_all.new.out) t) same c.in-Err.ensures.sent;
   refused = λ e. write_not c.in-Err.fault e;
   caused = λ clean h shows e. write_not c.in-Err.fault e;
@@ -66,7 +67,7 @@ returns-in-Ok-export_items g c = record {
   rests = c.export_items.ensures.rests;
   calls = looks g.S.Store c.args.self.now _ c.export_items.ensures.rests.clean (true_not c.args.self.now.live c.if-not-self.false) (λ clean h shows. only_read g.S.Store c.args.self.now _ h refl c.export_items.ensures.rests refl shows);
   shown = λ clean h shows. only_read g.S.Store c.args.self.now _ h refl c.export_items.ensures.rests refl shows;
-  printed = λ clean h shows. whole_tree _ _ h (c.items_print_as_their_tree.ensures h) (c.in-Ok-export_items.ensures.printed clean (views_of h) shows.tables);
+  printed = λ clean h shows. whole_tree _ _ h (reached_text h) (c.in-Ok-export_items.ensures.printed clean (views_of h) shows.tables);
   refused = λ e. ok_not tt (Refused e);
   caused = λ clean h shows e. ok_not tt (Refused e);
   fault = λ f. ok_not tt (Write f);
@@ -79,10 +80,10 @@ returns-in-Err-export_items g c = record {
   rests = c.export_items.ensures.rests;
   calls = looks g.S.Store c.args.self.now _ c.export_items.ensures.rests.clean (true_not c.args.self.now.live c.if-not-self.false) (λ clean h shows. only_read g.S.Store c.args.self.now _ h refl c.export_items.ensures.rests refl shows);
   shown = λ clean h shows. only_read g.S.Store c.args.self.now _ h refl c.export_items.ensures.rests refl shows;
-  printed = λ clean h shows. exported {X = Unit {0}} (Err c.export_fault.result) _ _ h (c.items_print_as_their_tree.ensures h) (told_tree c.in-Err-export_items.end c.export_fault.result _ _ h (c.items_print_as_their_tree.ensures h) c.export_fault.ensures (c.in-Err-export_items.ensures.printed clean (views_of h) shows.tables));
+  printed = λ clean h shows. exported {X = Unit {0}} (Err c.export_fault.result) _ _ h (reached_text h) (told_tree c.in-Err-export_items.end c.export_fault.result _ _ h (reached_text h) c.export_fault.ensures (c.in-Err-export_items.ensures.printed clean (views_of h) shows.tables));
   refused = λ e is. told_gives c.in-Err-export_items.end c.export_fault.result e c.args.self.now.live c.if-not-self.false c.export_fault.ensures (told_by _ c.export_fault.result e refl is);
   caused = λ clean h shows e is.
       told_cause g.S.Store c.args.self.now.tables.conn c.export_items.new.tables.conn c.in-Err-export_items.end c.export_fault.result e c.export_fault.ensures (told_by _ c.export_fault.result e refl is)
-      (c.in-Err-export_items.ensures.caused clean (views_of h) shows.tables (c.reached_histories_are_kept.ensures.readable h shows.history));
+      (c.in-Err-export_items.ensures.caused clean (views_of h) shows.tables (reached_readable h shows.history));
   fault = λ f is. c.in-Err-export_items.ensures.fault f (ap Err (told_writes _ c.in-Err-export_items.end c.export_fault.result f refl is c.export_fault.ensures));
 }

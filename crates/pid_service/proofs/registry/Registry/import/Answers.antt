@@ -1,6 +1,8 @@
-use Rattle.std.proofs.Common.{◌≡◌, ◌≤◌, IfErr, length, refl, rules, subst, true}
+use Rattle.std.proofs.Common.{◌≡◌, ◌≤◌, arith, IfErr, length, refl, rules, sym, subst, true, ◌∙◌}
+use Rattle.std.proofs.lemmas.Bool.{false≢true}
 use Rattle.pid_service.proofs.Words.{asked, Command, file_reading, is_import, most_file_bytes, Obeys}
-use Rattle.pid_service.proofs.ImportCauses.{Faults}
+use Rattle.pid_service.proofs.ImportCauses.{Faults, plain_faults}
+use Rattle.pid_service.proofs.Imported.{bytes_obeyed}
 use Rattle.pid_service.proofs.Keeping.{true_not}
 use Rattle.pid_service.proofs.Lasting.{lasting}
 use Rattle.pid_service.proofs.registry.Registry.import.Goals as goal
@@ -19,15 +21,22 @@ pub returns : goal.returns
 returns g c =
     let import : is_import c.import_command-command.result.act ≡ true = rw c.import_command-command.ensures refl in
     let short : length c.args.file.now ≤ most_file_bytes = search rules in
+    let old = c.args.self.now in
+    let new = c.import_act.new.self in
+    let result = c.without_body_fault-answer.result in
+    let r = c.import_act.ensures.taken in
+    let plain = c.without_body_fault-answer.ensures.same in
     record {
-      clean = c.import_bytes-answer.ensures.lasts.clean;
+      clean = c.import_act.ensures.lasts.clean;
       failed = true_not c.args.self.now.live c.if-not-self.false;
-      form = search rules;
+      form = λ on long. absurd (let no : ⊥ = omega (arith, short, long) in no);
       obeyed = λ clean h shows.
-          subst (λ (k : Command). Obeys g.S.Store c.import_bytes-answer.result c.import_bytes-answer.new.self h (asked k (file_reading c.args.file.now))) c.import_command-command.ensures
-          (c.import_bytes-answer.ensures.obeyed clean h shows import short);
+          subst (λ (k : Command). Obeys g.S.Store result new h (asked k (file_reading c.args.file.now))) c.import_command-command.ensures
+          (bytes_obeyed g.S.Store c.import_act.result result new h c.import_command-command.result c.args.file.now r.text c.import_act.new.input.rest.now plain
+          (λ e. absurd (false≢true (c.import_act.ensures.lasts.reads.fault e))) (sym c.new-input.ensures.rest ∙ r.consumed) r.read short (r.holds clean h shows import));
       caused = λ clean h shows reading.
-          subst (λ (k : Command). IfErr c.import_bytes-answer.result (Faults g.S.Store c.args.self.now.tables.conn c.import_bytes-answer.new.self.tables.conn c.import_bytes-answer.new.self.live h (asked k reading))) c.import_command-command.ensures
-          (c.import_bytes-answer.ensures.caused clean h shows reading import);
-      lasts = lasting g.S.Store c.args.self.now c.import_bytes-answer.new.self c.import_bytes-answer.result c.import_bytes-answer.ensures.lasts.live c.import_bytes-answer.ensures.lasts.limit;
+          subst (λ (k : Command). IfErr result (Faults g.S.Store old.tables.conn new.tables.conn new.live h (asked k reading))) c.import_command-command.ensures
+          (plain_faults (Faults g.S.Store old.tables.conn new.tables.conn new.live h (asked c.import_command-command.result reading)) c.import_act.result result plain
+          (λ e. absurd (false≢true (c.import_act.ensures.lasts.reads.fault e))) (c.import_act.ensures.caused clean h shows reading import));
+      lasts = lasting g.S.Store old new result (c.without_body_fault-answer.ensures.held old.live new.live c.import_act.ensures.lasts.live) c.import_act.ensures.lasts.limit;
     }

@@ -4,6 +4,10 @@ use Rattle.pid_service.proofs.ImportCauses.{Faults, bad_text, early_faults, open
 use Rattle.pid_service.proofs.Imported.{past_obeyed}
 use Rattle.pid_service.proofs.Lasting.{still_live}
 use Rattle.pid_service.proofs.Obeyed.{only_read}
+use Rattle.pid_service_laws.proofs.Judging.{outcome_of}
+use Rattle.pid_tables.proofs.Readings.{long_alone}
+use Rattle.pid_tables.proofs.Judged.{long_refused}
+use Rattle.pid_service.proofs.Reached.{reached_after, reached_sound}
 use Rattle.pid_service.proofs.registry.Registry.import_act.Goals as goal
 
 pub returns-in-Answered : goal.returns-in-Answered
@@ -20,17 +24,17 @@ returns-in-Answered g c = record {
         consumed = r.consumed;
         read = r.read;
         holds = λ clean h shows import.
-            past_obeyed g.S.Store _ h c.args.command.now c.in-Answered.answer c.answer_past.result r.text c.long_files_are_refused.ensures.readings c.long_files_are_refused.ensures.refused import
+            past_obeyed g.S.Store _ h c.args.command.now c.in-Answered.answer c.answer_past.result r.text long_alone long_refused import
             (only_read g.S.Store c.args.self.now _ h refl c.judge_import.ensures.rests refl shows)
-            (c.in-Answered.ensures.judged clean h (c.reached_histories_are_kept.ensures.sound h shows.history) shows.tables) r.holds;
+            (c.in-Answered.ensures.judged clean h (reached_sound h shows.history) shows.tables) r.holds;
       };
   caused = λ clean h shows reading import.
       let old = c.args.self.now.tables.conn in
       let new = c.judge_import.new.tables.conn in
       let live = c.args.self.now.live in
       past_faults (Faults g.S.Store old new live h (asked c.args.command.now reading)) c.in-Answered.answer c.answer_past.result c.answer_past.ensures.past.text c.answer_past.ensures.past.holds
-      (early_faults g.S.Store old new live c.judgements_are_outcomes.ensures shows.lives h c.args.command.now reading c.in-Answered.answer
-      (c.in-Answered.ensures.caused clean h (c.reached_histories_are_kept.ensures.sound h shows.history) shows.tables))
+      (early_faults g.S.Store old new live outcome_of shows.lives h c.args.command.now reading c.in-Answered.answer
+      (c.in-Answered.ensures.caused clean h (reached_sound h shows.history) shows.tables))
       bad_text;
 }
 
@@ -48,18 +52,18 @@ returns-in-Open g c = record {
         consumed = r.consumed;
         read = r.read;
         holds = λ clean h shows import.
-            let early = c.in-Open.ensures.judged (c.carry_in-end.ensures.lasts.clean clean) h (c.reached_histories_are_kept.ensures.sound h shows.history) shows.tables in
+            let early = c.in-Open.ensures.judged (c.carry_in-end.ensures.lasts.clean clean) h (reached_sound h shows.history) shows.tables in
             r.holds clean h
             (record {
               shows = only_read g.S.Store c.args.self.now _ h refl c.judge_import.ensures.rests refl shows;
               import = import;
               waits = early.0;
               many = early.1;
-              reached = c.commands_lead_on.ensures h (asked c.args.command.now (file_reading r.text)) shows.history (c.command_is_well_made.ensures (file_reading r.text) (c.texts_read_to_files.ensures.readings r.text));
+              reached = reached_after h (asked c.args.command.now (file_reading r.text)) shows.history (c.command_is_well_made.ensures (file_reading r.text) (c.texts_read_to_files.ensures.readings r.text));
             });
       };
   caused = λ clean h shows reading import.
-      let early = c.in-Open.ensures.judged (c.carry_in-end.ensures.lasts.clean clean) h (c.reached_histories_are_kept.ensures.sound h shows.history) shows.tables in
+      let early = c.in-Open.ensures.judged (c.carry_in-end.ensures.lasts.clean clean) h (reached_sound h shows.history) shows.tables in
       open_faults g.S.Store c.args.self.now.tables.conn c.carry_in-end.new.self.tables.conn c.carry_in-end.new.self.live h c.args.command.now reading _ c.carry_in-end.result early.0
       (c.carry_in-end.ensures.caused clean h (only_read g.S.Store c.args.self.now _ h refl c.judge_import.ensures.rests refl shows) shows.history.marked import early.0 early.1);
 }

@@ -1,5 +1,5 @@
 use Rattle.pid_service.proofs.QueriesMet.{finds}
-use Rattle.pid_service.proofs.Questions.{answers_nothing, answers_unless}
+use Rattle.pid_service.proofs.Questions.{answers_kept, answers_then}
 use Rattle.pid_service.proofs.registry.Registry.keep.Goals as goal
 
 pub returns-in-Pending : goal.returns-in-Pending
@@ -8,23 +8,16 @@ returns-in-Pending g c = c.keep_pending.ensures
 pub returns-in-Numbers : goal.returns-in-Numbers
 returns-in-Numbers g c = c.keep_numbers.ensures
 
-pub returns-in-Changes : goal.returns-in-Changes
-returns-in-Changes g c = c.keep_changes.ensures
+pub returns-in-Top : goal.returns-in-Top
+returns-in-Top g c = answers_kept g.S.Store c.args.self.now c.children.new.self c.children.result c.unless_short.result _ c.unless_short.ensures (finds g.S.Store _ _ _ _ c.children.ensures)
 
 pub returns-in-Ok : goal.returns-in-Ok
-returns-in-Ok g c = answers_nothing g.S.Store c.args.self.now c.children.new.self c.in-Ok.items _ (finds g.S.Store _ _ _ _ c.in-Ok.ensures)
+returns-in-Ok g c =
+    answers_then g.S.Store c.args.self.now c.status.new.self c.changes.new.self c.in-Ok.status c.unless_short-in-Ok.result _ _ (finds g.S.Store _ _ _ _ c.in-Ok.ensures)
+    (answers_kept g.S.Store c.status.new.self c.changes.new.self c.changes.result c.unless_short-in-Ok.result _ c.unless_short-in-Ok.ensures (finds g.S.Store _ _ _ _ c.changes.ensures))
 
 pub returns-in-Err : goal.returns-in-Err
-returns-in-Err g c = answers_unless g.S.Store c.args.self.now c.children.new.self c.in-Err.refusal c.unless_short.result _ c.unless_short.ensures (finds g.S.Store _ _ _ _ c.in-Err.ensures)
+returns-in-Err g c = answers_kept g.S.Store c.args.self.now c.status.new.self _ c.unless_short-in-Err.result _ c.unless_short-in-Err.ensures (finds g.S.Store _ _ _ _ c.in-Err.ensures)
 
-pub returns-in-Ok-export_length : goal.returns-in-Ok-export_length
-returns-in-Ok-export_length g c = answers_nothing g.S.Store c.args.self.now c.export_length.new.self _ _ (finds g.S.Store _ _ _ _ c.in-Ok-export_length.ensures)
-
-pub returns-in-Err-export_length : goal.returns-in-Err-export_length
-returns-in-Err-export_length g c = answers_unless g.S.Store c.args.self.now c.export_length.new.self c.in-Err-export_length.refusal c.unless_short-in-Err-export_length.result _ c.unless_short-in-Err-export_length.ensures (finds g.S.Store _ _ _ _ c.in-Err-export_length.ensures)
-
-pub returns-in-Ok-status : goal.returns-in-Ok-status
-returns-in-Ok-status g c = answers_nothing g.S.Store c.args.self.now c.status.new.self _ _ (finds g.S.Store _ _ _ _ c.in-Ok-status.ensures)
-
-pub returns-in-Err-status : goal.returns-in-Err-status
-returns-in-Err-status g c = answers_unless g.S.Store c.args.self.now c.status.new.self c.in-Err-status.refusal c.unless_short-in-Err-status.result _ c.unless_short-in-Err-status.ensures (finds g.S.Store _ _ _ _ c.in-Err-status.ensures)
+pub returns-in-Text : goal.returns-in-Text
+returns-in-Text g c = answers_kept g.S.Store c.args.self.now c.export_length.new.self c.export_length.result c.unless_short-in-Text.result _ c.unless_short-in-Text.ensures (finds g.S.Store _ _ _ _ c.export_length.ensures)

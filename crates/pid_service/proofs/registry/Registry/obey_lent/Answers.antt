@@ -1,12 +1,15 @@
 use Rattle.std.proofs.Common.{◌≡◌, inl, inr, true, false, Ok, ap, refl, sym, rules, ◌∙◌}
 use Rattle.pid_service.specs.Registries.{HasCleanDisk}
 use Rattle.pid_service.proofs.Words.{answer, Asked, asks, file_of, file_reading, History, is_broken, is_import, JudgesCommand, Obeys, reading_of, Shows, views_of}
-use Rattle.pid_service.proofs.ImportCauses.{bad_text}
-use Rattle.pid_service.proofs.Imported.{file_given}
+use Rattle.std.proofs.lemmas.Bool.{false≢true}
+use Rattle.pid_moderation.specs.History.{asked}
+use Rattle.pid_service.proofs.ImportCauses.{Faults, bad_text, plain_faults}
+use Rattle.pid_service.proofs.Imported.{bytes_obeyed, file_given}
 use Rattle.pid_service.proofs.Keeping.{true_not}
 use Rattle.pid_service.proofs.Lasting.{carried, lasting, not_failed}
 use Rattle.pid_service.proofs.Obeyed.{broken_form, failed_over, judged_for, only_read, refused, well_made}
 use Rattle.pid_service.proofs.ReadFiles.{tells_any}
+use Rattle.pid_service.proofs.Reached.{reached_after}
 use Rattle.pid_service.proofs.registry.Registry.obey_lent.Goals as goal
 
 -- ---- a registry that has failed
@@ -43,16 +46,23 @@ pub returns-in-Import : goal.returns-in-Import
 returns-in-Import g c =
     let sound : is_broken c.args.command.now.act ≡ false = sym c.breaks_form.ensures.broken ∙ c.if-breaks_form.false in
     let import : is_import c.args.command.now.act ≡ true = ap is_import c.in-Import.is in
+    let r = c.import_act.ensures.taken in
+    let plain = c.without_body_fault.ensures.same in
     record {
-      clean = c.import_bytes.ensures.lasts.clean;
+      clean = c.import_act.ensures.lasts.clean;
       failed = true_not c.args.self.now.live c.if-not-self.false;
       form = λ on broken. true_not (is_broken c.args.command.now.act) broken sound;
       obeyed = λ clean h shows.
-          file_given g.S.Store (λ (a : Asked). Obeys g.S.Store c.import_bytes.result c.import_bytes.new.self h a) c.args.command.now c.in-Import.file c.as_bytes.result.now c.in-Import.is c.as_bytes.ensures sound
-          (λ import short. c.import_bytes.ensures.obeyed clean h shows import short);
+          file_given g.S.Store (λ (a : Asked). Obeys g.S.Store c.without_body_fault.result c.import_act.new.self h a) c.args.command.now c.in-Import.file c.as_bytes.result.now c.in-Import.is c.as_bytes.ensures sound
+          (λ import short.
+          bytes_obeyed g.S.Store c.import_act.result c.without_body_fault.result c.import_act.new.self h c.args.command.now c.as_bytes.result.now r.text c.import_act.new.input.rest.now plain
+          (λ e. absurd (false≢true (c.import_act.ensures.lasts.reads.fault e))) (sym c.new-input.ensures.rest ∙ r.consumed) r.read short (r.holds clean h shows import));
       caused = λ clean h shows other. true_not (is_import c.args.command.now.act) import other;
-      import_caused = λ clean h shows import. c.import_bytes.ensures.caused clean h shows (reading_of c.args.command.now.act) import;
-      lasts = lasting g.S.Store c.args.self.now c.import_bytes.new.self c.import_bytes.result c.import_bytes.ensures.lasts.live c.import_bytes.ensures.lasts.limit;
+      import_caused = λ clean h shows import.
+          let reading = reading_of c.args.command.now.act in
+          plain_faults (Faults g.S.Store c.args.self.now.tables.conn c.import_act.new.self.tables.conn c.import_act.new.self.live h (asked c.args.command.now reading)) c.import_act.result c.without_body_fault.result plain
+          (λ e. absurd (false≢true (c.import_act.ensures.lasts.reads.fault e))) (c.import_act.ensures.caused clean h shows reading import);
+      lasts = lasting g.S.Store c.args.self.now c.import_act.new.self c.without_body_fault.result (c.without_body_fault.ensures.held c.args.self.now.live c.import_act.new.self.live c.import_act.ensures.lasts.live) c.import_act.ensures.lasts.limit;
     }
 
 -- ---- a refusal of the judgement, or a fault
@@ -89,7 +99,7 @@ returns-in-Ok g c =
           c.carry_out-answer.ensures.obeyed h (asks c.args.command.now)
           (record {
             shows = only_read g.S.Store c.args.self.now _ h refl c.judge.ensures.rests refl shows;
-            reached = c.commands_lead_on.ensures h (asks c.args.command.now) shows.history (well_made c.args.command.now reading other c.command_is_well_made.ensures);
+            reached = reached_after h (asks c.args.command.now) shows.history (well_made c.args.command.now reading other c.command_is_well_made.ensures);
             comes = told clean h shows;
           });
       import_caused = λ clean h shows import. true_not (is_import c.args.command.now.act) import other;

@@ -7,6 +7,8 @@ use Rattle.pid_service.proofs.Keeping.{true_not}
 use Rattle.pid_service.proofs.Obeyed.{only_read}
 use Rattle.pid_service.proofs.QueriesMet.{promised}
 use Rattle.pid_service.proofs.Questions.{answers_fault, failed_here, none_changed, reads_after}
+use Rattle.pid_moderation.proofs.RevisionLemmas.{within as within_revision}
+use Rattle.pid_service.proofs.Reached.{reached_held, reached_readable}
 use Rattle.pid_service.proofs.registry_queries.RegistryRegistryQueries.changes.Goals as goal
 
 page_with : (revision now : ℕ) (told : List ChangedItem) (items : List Changed) → revision ≡ now → map changed_of told ≡ items
@@ -22,7 +24,7 @@ pub returns-in-Err : goal.returns-in-Err
 returns-in-Err g c =
     promised g.S.Store c.args.self.now _ _ _
     (answers_fault g.S.Store c.args.self.now _ c.in-Err.fault c.refusal_of.result _ c.if-not-self.false refl refl c.revision.ensures.rests c.refusal_of.ensures.same c.refusal_of.ensures.fault
-    (λ clean h shows. c.in-Err.ensures.told clean (views_of h) shows.tables (c.reached_histories_are_kept.ensures.readable h shows.history)))
+    (λ clean h shows. c.in-Err.ensures.told clean (views_of h) shows.tables (reached_readable h shows.history)))
 
 -- ---- no command was accepted after the number
 
@@ -37,7 +39,7 @@ returns-then-revision-since g c =
       told = λ clean h shows.
           let now : c.in-Ok.revision ≡ (views_of h).revision = c.in-Ok.ensures.told clean (views_of h) shows.tables in
           let past : c.in-Ok.revision ≤ c.args.since = c.if-revision-since.true in
-          let within : (path : List ℕ) → since_of path h ≤ c.args.since = λ path. (let one : since_of path h ≤ (views_of h).revision = c.sinces_are_last_changes.ensures.within h path in let most : since_of path h ≤ c.args.since = omega (arith, one, now, past) in most) in (
+          let within : (path : List ℕ) → since_of path h ≤ c.args.since = λ path. (let one : since_of path h ≤ (views_of h).revision = within_revision h path in let most : since_of path h ≤ c.args.since = omega (arith, one, now, past) in most) in (
             page_with c.in-Ok.revision (views_of h).revision c.new-items.result.items _ now (ap (map changed_of) c.new-items.ensures.items ∙ sym (none_changed PAGE c.args.since (start_text (option_copied c.args.after)) (views_of h) within)),
             only_read g.S.Store c.args.self.now _ h refl c.revision.ensures.rests refl shows,
           );
@@ -68,7 +70,6 @@ returns-in-Ok-changes_page g c =
     promised g.S.Store c.args.self.now _ _ _
     (let first = c.revision.ensures.rests in
     let second = c.changes_page.ensures.rests in
-    let taken : c.take-kept.result ≡ c.args.self.now.kept.changes = search rules in
     record {
       failed = true_not c.args.self.now.live c.if-not-self.false;
       fault = tt;
@@ -76,7 +77,7 @@ returns-in-Ok-changes_page g c =
       rests = reads_then _ _ _ first second;
       told = λ clean h shows.
           let kept = shows.kept (first.clean (second.clean clean)) in
-          let told = c.in-Ok-changes_page.ensures.told clean (views_of h) (first.kept (views_of h) shows.tables) (c.reached_histories_are_kept.ensures.held h shows.history) in
+          let told = c.in-Ok-changes_page.ensures.told clean (views_of h) (first.kept (views_of h) shows.tables) (reached_held h shows.history) in
           let page : map changed_of c.in-Ok-changes_page.changes.items.items ≡ take PAGE (changed_after c.args.since (start_text (option_copied c.args.after)) (views_of h)) = ap (λ (p : ChangePage). p.items) told in
           let asked = page ∙ sym (ap (λ (start : Option Path). take PAGE (changed_after c.args.since (start_text start) (views_of h))) c.copied-start.ensures) in (
             told,
@@ -88,7 +89,7 @@ returns-in-Ok-changes_page g c =
                 names = kept.names;
                 text = kept.text;
                 top = kept.top;
-                changes = c.kept_after.ensures (views_of h) (subst (λ (k : Option KeptChanges). HoldsChanges k (views_of h)) (sym taken) kept.changes) (ap (map changed_of) c.as_slice-page.ensures.value ∙ asked);
+                changes = c.keep_page.ensures (views_of h) kept.changes (ap (map changed_of) c.as_slice-page.ensures.value ∙ asked);
                 pending = kept.pending;
                 numbers = kept.numbers;
                 accounts = kept.accounts;
@@ -103,4 +104,4 @@ returns-in-Err-changes_page g c =
     promised g.S.Store c.args.self.now _ _ _
     (let read = reads_after g.S.Store c.args.self.now.tables.conn c.revision.new.self.conn c.changes_page.new.self.conn (Err c.in-Err-changes_page.fault) _ c.revision.ensures.rests c.in-Err-changes_page.ensures in
     answers_fault g.S.Store c.args.self.now _ c.in-Err-changes_page.fault c.refusal_of-in-Err-changes_page.result _ c.if-not-self.false refl refl read.rests c.refusal_of-in-Err-changes_page.ensures.same c.refusal_of-in-Err-changes_page.ensures.fault
-    (λ clean h shows. read.told clean (views_of h) shows.tables (c.reached_histories_are_kept.ensures.readable h shows.history)))
+    (λ clean h shows. read.told clean (views_of h) shows.tables (reached_readable h shows.history)))

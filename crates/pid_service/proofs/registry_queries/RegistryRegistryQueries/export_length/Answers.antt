@@ -5,6 +5,7 @@ use Rattle.pid_service.proofs.Exported.{text_kept, text_told}
 use Rattle.pid_service.proofs.Keeping.{true_not}
 use Rattle.pid_service.proofs.QueriesMet.{promised}
 use Rattle.pid_service.proofs.Questions.{answers_fault, failed_here}
+use Rattle.pid_service.proofs.Reached.{reached_readable, reached_text}
 use Rattle.pid_service.proofs.registry_queries.RegistryRegistryQueries.export_length.Goals as goal
 
 -- ---- it has failed
@@ -26,7 +27,7 @@ returns-in-Some g c =
       rests = nothing_read (state g.S.Store c.args.self.now.tables.conn) c.args.self.now.tables.settled;
       told = λ clean h shows.
           let many : c.len.result ≡ length c.in-Some.text.bytes.items = search rules in
-          (many ∙ ap length (text_told g.S.Store c.args.self.now h c.in-Some.text c.in-Some.is clean shows (c.items_print_as_their_tree.ensures h)), shows);
+          (many ∙ ap length (text_told g.S.Store c.args.self.now h c.in-Some.text c.in-Some.is clean shows (reached_text h)), shows);
       caused = λ clean h shows. tt;
     })
 
@@ -41,8 +42,8 @@ returns-in-Ok g c =
       lives = refl;
       rests = c.items_text.ensures.rests;
       told = λ clean h shows.
-          let told = c.in-Ok.ensures.told clean (views_of h) shows.tables (c.reached_histories_are_kept.ensures.readable h shows.history) in
-          (told.counted ∙ ap length (c.items_print_as_their_tree.ensures h), text_kept g.S.Store c.args.self.now _ h shows refl refl refl refl refl refl refl c.items_text.ensures.rests told.kept);
+          let told = c.in-Ok.ensures.told clean (views_of h) shows.tables (reached_readable h shows.history) in
+          (told.counted ∙ ap length (reached_text h), text_kept g.S.Store c.args.self.now _ h shows refl refl refl refl refl refl refl c.items_text.ensures.rests told.kept);
       caused = λ clean h shows. tt;
     })
 
@@ -50,4 +51,4 @@ pub returns-in-Err : goal.returns-in-Err
 returns-in-Err g c =
     promised g.S.Store c.args.self.now _ _ _
     (answers_fault g.S.Store c.args.self.now _ c.in-Err.fault c.refusal_of.result _ c.if-not-self.false refl refl c.items_text.ensures.rests c.refusal_of.ensures.same c.refusal_of.ensures.fault
-    (λ clean h shows. c.in-Err.ensures.told clean (views_of h) shows.tables (c.reached_histories_are_kept.ensures.readable h shows.history)))
+    (λ clean h shows. c.in-Err.ensures.told clean (views_of h) shows.tables (reached_readable h shows.history)))

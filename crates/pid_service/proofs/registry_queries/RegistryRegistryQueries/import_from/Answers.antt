@@ -4,6 +4,7 @@ use Rattle.pid_service.proofs.ImportCauses.{Faults}
 use Rattle.pid_service.proofs.Keeping.{true_not}
 use Rattle.pid_service.proofs.Lasting.{end_lasting}
 use Rattle.pid_service.proofs.ImportSessions.{failed_past}
+use Rattle.pid_service.proofs.SessionsMet.{sessions_met}
 use Rattle.pid_service.proofs.registry_queries.RegistryRegistryQueries.import_from.Goals as goal
 
 pub returns : goal.returns
@@ -20,7 +21,7 @@ returns g c = record {
         consumed = taken.consumed;
         read = taken.read;
         holds = record {
-          calls = c.clauses_meet_sessions.ensures.imports c.args.self.now c.import_act-end.new.self asks c.import_act-end.result c.import_act-end.ensures.lasts.clean (true_not c.args.self.now.live c.if-not-self.false) leaves;
+          calls = (sessions_met g.S.Store).imports c.args.self.now c.import_act-end.new.self asks c.import_act-end.result c.import_act-end.ensures.lasts.clean (true_not c.args.self.now.live c.if-not-self.false) leaves;
           leaves = leaves;
         };
       };
@@ -45,7 +46,7 @@ returns-then-not-self g c = record {
         consumed = past.consumed;
         read = past.read;
         holds = record {
-          calls = c.clauses_meet_sessions.ensures.imports c.args.self.now c.args.self.now (import_of c.args.account c.args.key (file_reading past.text)) c.answer_past.result (λ clean. clean) (λ off. (failed_past _ _ past.holds, refl))
+          calls = (sessions_met g.S.Store).imports c.args.self.now c.args.self.now (import_of c.args.account c.args.key (file_reading past.text)) c.answer_past.result (λ clean. clean) (λ off. (failed_past _ _ past.holds, refl))
               (λ clean h shows. true_not c.args.self.now.live shows.lives c.if-not-self.true);
           leaves = λ clean h shows. true_not c.args.self.now.live shows.lives c.if-not-self.true;
         };

@@ -3,6 +3,8 @@ use Rattle.pid_service.proofs.Words.{is_live, registry_status_of, RegistryStatus
 use Rattle.pid_service.proofs.Keeping.{true_not}
 use Rattle.pid_service.proofs.QueriesMet.{promised}
 use Rattle.pid_service.proofs.Questions.{answers_fault, answers_refused, answers_then, live_after}
+use Rattle.pid_moderation.proofs.AccountsCounted.{is_its_status}
+use Rattle.pid_service.proofs.Reached.{reached_readable}
 use Rattle.pid_service.proofs.registry_queries.RegistryRegistryQueries.status.Goals as goal
 
 pub returns-in-Ok-status_by : goal.returns-in-Ok-status_by
@@ -20,7 +22,7 @@ returns-in-Ok-status_by g c =
       told = λ clean h shows.
           let kept = shows.kept (found.rests.clean clean) in
           let says = found.told clean (views_of h) shows.tables kept.pending kept.accounts in (
-            (c.views_tell_status.ensures h (registry_status_of c.in-Ok-status_by.status)).0 says,
+            is_its_status h (registry_status_of c.in-Ok-status_by.status) says,
             record {
               lives = shows.lives;
               history = shows.history;
@@ -37,7 +39,7 @@ returns-in-Err-status_by g c =
     promised g.S.Store c.args.self.now _ _ _
     (answers_then g.S.Store c.args.self.now mid _ _ _ _ _ c.in-Ok.ensures
     (answers_fault g.S.Store mid _ c.in-Err-status_by.fault c.refusal_of.result _ (live_after g.S.Store c.args.self.now mid _ _ c.in-Ok.ensures) refl refl c.status_by.ensures.rests c.refusal_of.ensures.same c.refusal_of.ensures.fault
-    (λ clean h shows. c.in-Err-status_by.ensures.told clean (views_of h) shows.tables (c.reached_histories_are_kept.ensures.readable h shows.history))))
+    (λ clean h shows. c.in-Err-status_by.ensures.told clean (views_of h) shows.tables (reached_readable h shows.history))))
 
 pub returns-in-Err : goal.returns-in-Err
 returns-in-Err g c =

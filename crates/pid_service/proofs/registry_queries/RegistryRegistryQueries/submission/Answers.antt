@@ -5,6 +5,7 @@ use Rattle.pid_service.proofs.Causes.{caused_by}
 use Rattle.pid_service.proofs.QueriesMet.{promised_if_there}
 use Rattle.pid_service.proofs.Keeping.{true_not}
 use Rattle.pid_service.proofs.Obeyed.{only_read}
+use Rattle.pid_service.proofs.Reached.{reached_readable}
 use Rattle.pid_service.proofs.registry_queries.RegistryRegistryQueries.submission.Goals as goal
 
 pub returns-then-not-self : goal.returns-then-not-self
@@ -53,5 +54,5 @@ returns-in-Err g c =
       rests = c.submission.ensures.rests;
       told = λ clean h shows. (inr c.refusal_of.ensures.fault, only_read g.S.Store c.args.self.now _ h refl c.submission.ensures.rests refl shows);
       caused = λ clean h shows.
-          inr (caused_by g.S.Store c.args.self.now.tables.conn c.submission.new.self.conn c.in-Err.fault c.refusal_of.result c.refusal_of.ensures.same (c.in-Err.ensures.told clean (views_of h) shows.tables (c.reached_histories_are_kept.ensures.readable h shows.history)));
+          inr (caused_by g.S.Store c.args.self.now.tables.conn c.submission.new.self.conn c.in-Err.fault c.refusal_of.result c.refusal_of.ensures.same (c.in-Err.ensures.told clean (views_of h) shows.tables (reached_readable h shows.history)));
     })
