@@ -86,6 +86,10 @@ module _ {S : Type 0} (store : Ghosts S) where
       subst (λ (x : Refusal). Obeys store (Err x) r h (asked command (file_reading text))) (sym past.0) (told_so r h (asked command (file_reading text)) (Err BadText) shows no.0 no.1)
   past_obeyed r h command given (Err imports.Body) text long refused is shows told past = shows
 
+  -- and one that was too long
+  pub long_obeyed : (r : Registry S store) (h : History) (command : Command) (text : List ℕ) → LongRefused → is_import command.act ≡ true → most_file_bytes < length text → Shows store r h → Obeys store (Err BadText) r h (asked command (file_reading text))
+  long_obeyed r h command text refused is over shows = let no = refused h command text is over in told_so r h (asked command (file_reading text)) (Err BadText) shows no.0 no.1
+
   -- an import whose file was brought in
 
   shows_still : (old new : Registry S store) (h : History) → Shows store old h → is_live new ≡ is_live old → AtRest store (connection new) (views_of h) → KeepsRight store new h → Shows store new h

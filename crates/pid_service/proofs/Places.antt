@@ -1,9 +1,10 @@
 -- The place of a path among extents.
-use Rattle.std.proofs.Common.{◌≡◌, ℕ, ◌+◌, ◌<◌, true, false, List, [], ◌∷◌, ◌++◌, length, get_or, map, take, drop, suc, Option, refl, sym, ap, subst, ◌∙◌, arith, add_assoc}
+use Rattle.std.proofs.Common.{◌≡◌, ℕ, ◌+◌, ◌<◌, ◌≤◌, true, false, List, [], ◌∷◌, ◌++◌, length, get_or, map, take, drop, suc, Option, refl, sym, ap, subst, ◌∙◌, arith, add_assoc}
 use Rattle.std.specs.List.{AllByRecursion}
 use Rattle.std.specs.declared.cmp.Ordering.TheVariants.{Less, Equal, Greater}
+use Rattle.std.proofs.Math.ListN.{drop_of_length-le}
 use Rattle.std.proofs.Math.Seq.{drop-cons}
-use Rattle.std.proofs.lemmas.List.{drop-map, length-map, map_more, take-map}
+use Rattle.std.proofs.lemmas.List.{drop-map, length-map, map_more, take_all, take-map}
 use Rattle.pid_file.specs.PathTexts.{path_text}
 use Rattle.pid_file.specs.Trees.{text_cmp}
 use Rattle.pid_service.proofs.Words.{BeginsAt, bytes_in, Extent, extent_in, Extents, IsPlace, last_extent, Path, path_cmp, text_or_none}
@@ -76,4 +77,21 @@ module _ (extents : List Extent) (i : ℕ) (d : Extent) (low : i < length extent
       before = last;
       below = below;
       stands = subst (λ (l : Extents). BeginsAt (path_text path) false l) (sym left) (sym less);
+    }
+
+-- it comes after all of them
+pub end_place : (extents : List Extent) (i : ℕ) → length extents ≤ i → (path : Path) (start : ℕ) (before : Option Path) → start ≡ 18 + bytes_in (take i (map extent_in extents)) → text_or_none before ≡ last_extent [] (take i (map extent_in extents)) → AllByRecursion (λ (e : List ℕ × ℕ). text_cmp (path_text path) e.0 ≡ Greater) (take i (map extent_in extents))
+    → (n : ℕ) → n ≡ length extents → IsPlace (record { there = false; index = n; after = n; start = start; end = start; before = before }) (map extent_in extents) (path_text path)
+end_place extents i past path start before is last below n count =
+    let long : length (map extent_in extents) ≡ length extents = length-map extents extent_in in
+    let far : length (map extent_in extents) ≤ n = omega (arith, long, count) in
+    let same : take i (map extent_in extents) ≡ take n (map extent_in extents) = take_all i (map extent_in extents) (omega (arith, long, past)) ∙ sym (take_all n (map extent_in extents) far) in
+    record {
+      within = omega (arith, long, count);
+      after = refl;
+      start = is ∙ ap (λ (l : Extents). 18 + bytes_in l) same;
+      end = is ∙ ap (λ (l : Extents). 18 + bytes_in l) same;
+      before = last ∙ ap (last_extent []) same;
+      below = subst (λ (l : Extents). AllByRecursion (λ (e : List ℕ × ℕ). text_cmp (path_text path) e.0 ≡ Greater) l) same below;
+      stands = subst (λ (l : Extents). BeginsAt (path_text path) false l) (sym (drop_of_length-le (map extent_in extents) far)) tt;
     }

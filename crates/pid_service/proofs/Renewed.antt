@@ -1,6 +1,12 @@
 -- A text in which new lines were put in the place of old ones.
-use Rattle.std.proofs.Common.{◌≡◌, ℕ, Bool, true, false, List, [], ◌∷◌, ◌++◌, ◌⊎◌, map, take, drop, Option, Some, inl, inr, refl, sym, ap, subst, ◌∙◌}
-use Rattle.std.specs.Prelude.{if◌then◌else◌}
+use Rattle.std.proofs.Common.{◌≡◌, ◌-◌, ◌+◌, add-one, arith, ℕ, Bool, true, false, List, [], ◌∷◌, ◌++◌, ◌⊎◌, length, map, take, drop, Option, Some, None, inl, inr, refl, sym, ap, subst, ◌∙◌}
+use mathlib.Core.Bool.{beq}
+use Rattle.std.specs.Prelude.{◌==◌, if◌then◌else◌, not, slice_get}
+use Rattle.std.proofs.Math.Seq.{take-length}
+use Rattle.std.proofs.lemmas.Bool.{false≢true}
+use Rattle.std.proofs.lemmas.Bool.Decides.{nat_tests}
+use Rattle.std.proofs.lemmas.List.{length-drop}
+use Rattle.pid_file.specs.Printing.{opens_block}
 use Rattle.std.specs.FinMap.Entries.{is_sorted}
 use Rattle.std.proofs.lemmas.List.{map-append, take-map, drop-map}
 use Rattle.pid_file.specs.PathTexts.{path_text}
@@ -36,6 +42,39 @@ lines_given text before write name shown is same has =
       | inr e ↦ ap (edited_item (path_text write.path)) e ∙ ap (λ (n : List ℕ). (path_text write.path, n) ∷ []) (sym same)
     ] in
     subst (λ (l : Items). HasLines text (text_behind before l) (extents_after before l)) (sym items) has
+
+-- whether the first of some extents opens a block after the one path as after the other
+pub first_opens : (before now : List ℕ) (extents : List Extent) (e : Extent) → slice_get extents 0 ≡ Some e → opens_block before (path_text e.path) ≡ opens_block now (path_text e.path) → OpensTheSame before now (map extent_in extents)
+first_opens before now [] e is same = tt
+first_opens before now (x ∷ extents) e is same = let first : x ≡ e = cc in subst (λ (y : Extent). opens_block before (path_text y.path) ≡ opens_block now (path_text y.path)) (sym first) same
+
+pub none_opens : (before now : List ℕ) (extents : List Extent) → slice_get extents 0 ≡ None → OpensTheSame before now (map extent_in extents)
+none_opens before now [] is = tt
+none_opens before now (x ∷ extents) is = absurd (let no : ⊥ = cc in no)
+
+pub same_bools : (a b : Bool) → beq a b ≡ true → a ≡ b
+same_bools true true is = refl
+same_bools false false is = refl
+same_bools true false is = absurd (false≢true is)
+same_bools false true is = absurd (false≢true is)
+
+lines_there : (extents : List Extent) (n : ℕ) → n ≡ length extents → not (n == 0) ≡ has_lines extents
+lines_there [] n is = ap (λ k. not (k == 0)) is
+lines_there (e ∷ extents) n is =
+    let more : n ≡ length extents + 1 = is ∙ sym (add-one (length extents)) in
+    let some : (n == 0) ≡ false = grind (arith, nat_tests) in
+    ap not some
+
+-- the extents behind a place, as they are cut out
+pub opens_kept : (place : TextPlace) (path : Path) (extents new shown : List Extent) (was now : Option Path) (n : ℕ) → was ≡ path_before place path place.there → now ≡ path_before place path (not (n == 0)) → n ≡ length new → shown ≡ extents
+    → OpensTheSame (text_or_none was) (text_or_none now) (map extent_in (take (length shown - place.after) (drop place.after shown))) → OpensTheSame (text_or_none (path_before place path place.there)) (text_or_none (path_before place path (has_lines new))) (map extent_in (drop place.after extents))
+opens_kept place path extents new shown was now n earlier later many same opens =
+    let rest : take (length shown - place.after) (drop place.after shown) ≡ drop place.after shown = ap (λ k. take k (drop place.after shown)) (sym (length-drop place.after shown)) ∙ take-length (drop place.after shown) in
+    subst (λ (l : List Extent). OpensTheSame (text_or_none (path_before place path place.there)) (text_or_none (path_before place path (has_lines new))) (map extent_in (drop place.after l))) same
+    (subst (λ (l : List Extent). OpensTheSame (text_or_none (path_before place path place.there)) (text_or_none (path_before place path (has_lines new))) (map extent_in l)) rest
+    (subst (λ (b : Bool). OpensTheSame (text_or_none (path_before place path place.there)) (text_or_none (path_before place path b)) (map extent_in (take (length shown - place.after) (drop place.after shown)))) (lines_there new n many)
+    (subst (λ (o : Option Path). OpensTheSame (text_or_none (path_before place path place.there)) (text_or_none o) (map extent_in (take (length shown - place.after) (drop place.after shown)))) later
+    (subst (λ (o : Option Path). OpensTheSame (text_or_none o) (text_or_none now) (map extent_in (take (length shown - place.after) (drop place.after shown)))) earlier opens))))
 
 module _ (old new : KeptText) (place : TextPlace) (write : Write) (lines : GrowingText) (items : Items) (sorted : is_sorted text_cmp items ≡ true) (kept : IsKeptText old items) (at : IsPlace place (map extent_in old.extents.items) (path_text write.path))
     (has : HasLines lines (text_behind (text_or_none place.before) (new_items write)) (extents_after (text_or_none place.before) (new_items write))) (puts : PutsLines old new place write.path lines) where

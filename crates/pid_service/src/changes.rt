@@ -1,5 +1,5 @@
 //! The items that were changed last, as a registry keeps them in memory.
-ghost use Rattle.std.specs.Prelude.{◌≡◌, ◌∷◌, [], None, true, IfSome, map};
+ghost use Rattle.std.specs.Prelude.{◌≡◌, ◌≤◌, ◌∷◌, ℕ, List, [], None, true, IfSome, map};
 ghost use Rattle.std.specs.Ordering.{is_lt};
 ghost use Rattle.pid_file.specs.PathTexts.{path_text};
 ghost use Rattle.pid_file.specs.Trees.{text_cmp};
@@ -98,16 +98,22 @@ fn later_items(
     Some(page)
 }
 
-/// The items of a page, if what is kept has them all and memory is there for them.
-pub(crate) fn kept_page(
+/// The items of a page, if none was changed after the number, or if what is kept has them all and
+/// memory is there for them.
+pub(crate) fn known_page(
     alloc: Global,
     kept: &Option<KeptChanges>,
+    revision: u64,
     since: u64,
     after: Option<Path>,
 ) -> Option<Vec<ChangedItem>>
-    ensures { (v : Views) → HoldsChanges kept.now v
+    ensures { (v : Views) → revision ≡ v.revision
+        → ((path : List ℕ) → v.since path ≤ v.revision) → HoldsChanges kept.now v
         → IfSome result (λ page. IsPage since after v page.items) }
 {
+    if revision <= since {
+        return Some(Vec::new(alloc));
+    }
     let Some(kept) = kept else {
         return None;
     };

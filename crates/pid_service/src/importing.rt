@@ -170,7 +170,6 @@ impl<S: Alter + Drop> Registry<S> {
     ) -> Result<Reply, Refusal>
         ensures { IsImported S.Store self.old self.new (import_of account key) file.now result }
     {
-        pid_tables::laws::long_files_are_refused(); // proof only
         if !self.live {
             return Err(Refusal::Failed);
         }

@@ -22,7 +22,7 @@ ghost use Rattle.pid_service.specs.Importing.{EndLasts};
 ghost use Rattle.pid_service.specs.Sessions.{showing as registry_showing};
 ghost use Rattle.pid_service.specs.Registries.{is_live as lives};
 
-use crate::changes::{keep_page, kept_page};
+use crate::changes::{keep_page, known_page};
 use crate::importing::{answer_past, import_command};
 use crate::items_text::{ItemsText, items_text};
 use crate::pending::{pending_by, queue_by};
@@ -185,11 +185,8 @@ impl<S: Alter + Drop> RegistryQueries for Registry<S> {
         match self.tables.revision() {
             Err(fault) => Err(refusal_of(fault)),
             Ok(revision) => {
-                if revision <= since {
-                    let items = Vec::new(self.alloc);
-                    return Ok(Changes { revision, items });
-                }
-                if let Some(items) = kept_page(self.alloc, &self.kept.changes, since, start) {
+                let kept = &self.kept.changes;
+                if let Some(items) = known_page(self.alloc, kept, revision, since, start) {
                     return Ok(Changes { revision, items });
                 }
                 match self.tables.changes_page(self.alloc, since, after) {

@@ -4,6 +4,7 @@ use Rattle.pid_file.specs.PathTexts.{path_text}
 use Rattle.pid_moderation.specs.ChangePages.{Changed}
 use Rattle.pid_service.proofs.Words.{changed_item, changed_of, ChangedItem, Edit}
 use Rattle.pid_service.proofs.RenewedChanges.{named_item}
+use Rattle.std.proofs.lemmas.Bool.{false≢true}
 use Rattle.pid_service.proofs.changes.add_written.Goals as goal
 
 pub returns-in-Ok : goal.returns-in-Ok
@@ -20,3 +21,6 @@ pub returns-in-Remove : goal.returns-in-Remove
 returns-in-Remove c on =
     let old = c.args.page.now.items in
     sym (ap (λ (e : Edit). map changed_of old ++ changed_item c.args.since (path_text c.args.write.now.path) e) c.in-Remove.is ∙ append-nil (map changed_of old))
+
+pub returns-in-Err : goal.returns-in-Err
+returns-in-Err c is = absurd (false≢true is)

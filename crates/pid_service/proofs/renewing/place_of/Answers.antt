@@ -1,5 +1,5 @@
-use Rattle.std.proofs.Common.{arith}
-use Rattle.pid_service.proofs.Places.{all_below, before_more, found_place, free_place, start_more}
+use Rattle.std.proofs.Common.{arith, length, refl}
+use Rattle.pid_service.proofs.Places.{all_below, before_more, end_place, found_place, free_place, start_more}
 use Rattle.pid_service.proofs.renewing.place_of.Goals as goal
 
 pub returns-in-Equal : goal.returns-in-Equal
@@ -21,3 +21,8 @@ loop-index-preserved c =
       before = before_more c.args.extents.now c.loop-index.index _ c.loop-index-test.true;
       below = all_below c.args.extents.now c.loop-index.index _ c.loop-index-test.true c.args.path i.below c.in-Greater.ensures;
     }
+
+pub returns : goal.returns
+returns c =
+    let i = c.loop-index.invariant in
+    end_place c.args.extents.now c.loop-index.index (omega (arith, c.loop-index-test.false)) c.args.path c.loop-index.start c.loop-index.before i.start i.before i.below (length c.args.extents.now) refl

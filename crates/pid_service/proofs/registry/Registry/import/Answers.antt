@@ -1,10 +1,11 @@
-use Rattle.std.proofs.Common.{◌≡◌, ◌≤◌, arith, IfErr, length, refl, rules, sym, subst, true, ◌∙◌}
+use Rattle.std.proofs.Common.{◌≡◌, ◌≤◌, ◌<◌, [], arith, IfErr, inr, length, refl, rules, sym, subst, true, ◌∙◌}
 use Rattle.std.proofs.lemmas.Bool.{false≢true}
-use Rattle.pid_service.proofs.Words.{asked, Command, file_reading, is_import, most_file_bytes, Obeys}
-use Rattle.pid_service.proofs.ImportCauses.{Faults, plain_faults}
-use Rattle.pid_service.proofs.Imported.{bytes_obeyed}
+use Rattle.pid_service.proofs.Words.{asked, Command, file_reading, Import, is_import, most_file_bytes, Obeys}
+use Rattle.pid_service.proofs.ImportCauses.{Faults, bad_text, plain_faults}
+use Rattle.pid_service.proofs.Imported.{bytes_obeyed, long_obeyed}
 use Rattle.pid_service.proofs.Keeping.{true_not}
-use Rattle.pid_service.proofs.Lasting.{lasting}
+use Rattle.pid_service.proofs.Lasting.{lasting, not_failed}
+use Rattle.pid_tables.proofs.Judged.{long_refused}
 use Rattle.pid_service.proofs.registry.Registry.import.Goals as goal
 
 pub returns-then-not-self : goal.returns-then-not-self
@@ -16,6 +17,18 @@ returns-then-not-self g c = record {
   caused = λ clean h shows. true_not c.args.self.now.live shows.lives c.if-not-self.true;
   lasts = record { alive = λ on. true_not c.args.self.now.live on c.if-not-self.true; stays = λ on. true_not c.args.self.now.live on c.if-not-self.true; fails = λ on. true_not c.args.self.now.live on c.if-not-self.true; limit = refl };
 }
+
+pub returns-then-file-gt-FILE_BYTES : goal.returns-then-file-gt-FILE_BYTES
+returns-then-file-gt-FILE_BYTES g c =
+    let over : most_file_bytes < length c.args.file.now = search rules in
+    record {
+      clean = λ clean. clean;
+      failed = true_not c.args.self.now.live c.if-not-self.false;
+      form = λ on long. (refl, refl);
+      obeyed = λ clean h shows. long_obeyed g.S.Store c.args.self.now h (record { account = c.args.account; key = c.args.key; act = Import [] }) c.args.file.now long_refused refl over shows;
+      caused = λ clean h shows reading. bad_text;
+      lasts = lasting g.S.Store c.args.self.now c.args.self.now _ (not_failed, inr refl) refl;
+    }
 
 pub returns : goal.returns
 returns g c =

@@ -1,12 +1,12 @@
-use Rattle.std.proofs.Common.{◌≡◌, ◌≤◌, ℕ, List, map, take, Err, Option, refl, rules, arith, ap, subst, sym, ◌∙◌}
+use Rattle.std.proofs.Common.{◌≡◌, ℕ, List, map, take, Err, Option, refl, ap, sym, ◌∙◌}
 use Rattle.std.specs.Option.{option_copied}
 use Rattle.pid_moderation.specs.ChangePages.{Changed}
 use Rattle.pid_tables.proofs.OfRows.OnlyReading.{reads_then}
-use Rattle.pid_service.proofs.Words.{changed_after, changed_of, ChangedItem, ChangePage, HoldsChanges, KeptChanges, PAGE, Path, since_of, start_text, views_of}
+use Rattle.pid_service.proofs.Words.{changed_after, changed_of, ChangedItem, ChangePage, PAGE, Path, start_text, views_of}
 use Rattle.pid_service.proofs.Keeping.{true_not}
 use Rattle.pid_service.proofs.Obeyed.{only_read}
 use Rattle.pid_service.proofs.QueriesMet.{promised}
-use Rattle.pid_service.proofs.Questions.{answers_fault, failed_here, none_changed, reads_after}
+use Rattle.pid_service.proofs.Questions.{answers_fault, failed_here, reads_after}
 use Rattle.pid_moderation.proofs.RevisionLemmas.{within as within_revision}
 use Rattle.pid_service.proofs.Reached.{reached_held, reached_readable}
 use Rattle.pid_service.proofs.registry_queries.RegistryRegistryQueries.changes.Goals as goal
@@ -26,27 +26,7 @@ returns-in-Err g c =
     (answers_fault g.S.Store c.args.self.now _ c.in-Err.fault c.refusal_of.result _ c.if-not-self.false refl refl c.revision.ensures.rests c.refusal_of.ensures.same c.refusal_of.ensures.fault
     (λ clean h shows. c.in-Err.ensures.told clean (views_of h) shows.tables (reached_readable h shows.history)))
 
--- ---- no command was accepted after the number
-
-pub returns-then-revision-since : goal.returns-then-revision-since
-returns-then-revision-since g c =
-    promised g.S.Store c.args.self.now _ _ _
-    (record {
-      failed = true_not c.args.self.now.live c.if-not-self.false;
-      fault = tt;
-      lives = refl;
-      rests = c.revision.ensures.rests;
-      told = λ clean h shows.
-          let now : c.in-Ok.revision ≡ (views_of h).revision = c.in-Ok.ensures.told clean (views_of h) shows.tables in
-          let past : c.in-Ok.revision ≤ c.args.since = c.if-revision-since.true in
-          let within : (path : List ℕ) → since_of path h ≤ c.args.since = λ path. (let one : since_of path h ≤ (views_of h).revision = within_revision h path in let most : since_of path h ≤ c.args.since = omega (arith, one, now, past) in most) in (
-            page_with c.in-Ok.revision (views_of h).revision c.new-items.result.items _ now (ap (map changed_of) c.new-items.ensures.items ∙ sym (none_changed PAGE c.args.since (start_text (option_copied c.args.after)) (views_of h) within)),
-            only_read g.S.Store c.args.self.now _ h refl c.revision.ensures.rests refl shows,
-          );
-      caused = λ clean h shows. tt;
-    })
-
--- ---- the items are kept
+-- ---- none was changed, or the items are kept
 
 pub returns-in-Some : goal.returns-in-Some
 returns-in-Some g c =
@@ -58,7 +38,7 @@ returns-in-Some g c =
       rests = c.revision.ensures.rests;
       told = λ clean h shows.
           let now : c.in-Ok.revision ≡ (views_of h).revision = c.in-Ok.ensures.told clean (views_of h) shows.tables in
-          let page = c.in-Some.ensures (views_of h) (shows.kept (c.revision.ensures.rests.clean clean)).changes ∙ ap (λ (start : Option Path). take PAGE (changed_after c.args.since (start_text start) (views_of h))) c.copied-start.ensures in
+          let page = c.in-Some.ensures (views_of h) now (within_revision h) (shows.kept (c.revision.ensures.rests.clean clean)).changes ∙ ap (λ (start : Option Path). take PAGE (changed_after c.args.since (start_text start) (views_of h))) c.copied-start.ensures in
           (page_with c.in-Ok.revision (views_of h).revision c.in-Some.items.items _ now page, only_read g.S.Store c.args.self.now _ h refl c.revision.ensures.rests refl shows);
       caused = λ clean h shows. tt;
     })
