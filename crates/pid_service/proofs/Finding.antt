@@ -1,5 +1,5 @@
 -- From the end of a session to the next opening.
-use Rattle.std.proofs.Common.{◌≡◌, inl, inr, ℕ, List, [], Bool, true, false, Option, Some, None, Result, Ok, Err, option_map, refl, sym, subst, ◌∙◌, arith}
+use Rattle.std.proofs.Common.{◌≡◌, inl, inr, ℕ, List, [], true, Option, Some, None, Result, Ok, Err, option_map, refl, sym, subst, ◌∙◌, arith}
 use Rattle.pid_tables.specs.Rows.Clauses as clauses
 use Rattle.pid_tables.specs.Rows.Clauses.{AtRest}
 use Rattle.pid_tables.specs.Rows.Faults.{IsMemoryOrStore}

@@ -1,6 +1,6 @@
 -- What is kept in memory, beside the views that it is right about.
-use Rattle.std.proofs.Common.{◌≡◌, ℕ, Bool, true, false, Option, None, Result, Ok, Err, rules, refl, sym, subst, ◌∙◌}
-use Rattle.std.specs.Prelude.{Vec, not}
+use Rattle.std.proofs.Common.{◌≡◌, ℕ, Bool, true, false, Option, None, Result, Ok, Err, rules, sym, subst, ◌∙◌}
+use Rattle.std.specs.Prelude.{Vec}
 use Rattle.std.specs.declared.alloc.Global.{Global}
 use Rattle.pid_service.proofs.Words.{Agrees, HoldsAccounts, HoldsChanges, HoldsNumbers, HoldsPending, HoldsText, HoldsTop, IsRightFor, Item, Items, KeepsNothing, KeptChanges, KeptItems, KeptViews, name_at, nothing, Searches, Views}
 

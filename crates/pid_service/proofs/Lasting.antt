@@ -1,7 +1,6 @@
 -- Whether a registry is live behind a call, on any disk.
-use Rattle.std.proofs.Common.{◌≡◌, ◌≢◌, inl, inr, Bool, true, false, List, [], ◌∷◌, ◌++◌, Option, Some, None, Result, Ok, Err, IsErrAnd, is_some, refl, sym, subst, ◌∙◌}
+use Rattle.std.proofs.Common.{◌≡◌, ◌≢◌, inl, inr, Bool, true, false, Option, Some, None, Result, Ok, Err, IsErrAnd, is_some, refl, sym, subst, ◌∙◌}
 use Rattle.std.specs.Prelude.{IfErr, IfSome, IsSomeAnd, MatchResult}
-use Rattle.std.specs.List.{AllByRecursion}
 use Rattle.pid_moderation.specs.declared.refusal.Refusal.TheVariants.{Memory, Store}
 use Rattle.pid_service_laws.specs.declared.faults.ImportEnd.TheVariants.{Refused}
 use Rattle.pid_service.specs.Histories.{IsMemoryOrStore}

@@ -1,8 +1,7 @@
 -- What an opened database is, by what it was.
 use Rattle.std.proofs.Common.{◌≡◌, ◌⊎◌, inl, inr, Bool, true, false, IsTrue, Some, Result, Ok, Err, IfErr, IfOk, OnOk, MatchResult, refl, sym, subst}
 use Rattle.sqlite.specs.State.{State}
-use Rattle.sqlite.proofs.StateLemmas.{survives_then, survives_weaker}
-use Rattle.pid_tables.specs.declared.rows.fault.TableFault.TheVariants.{Memory, Store}
+use Rattle.sqlite.proofs.StateLemmas.{survives_then}
 use Rattle.pid_tables.specs.Rows.Faults.{IsMemoryOrStore}
 use Rattle.pid_tables.specs.Rows.Clauses as clauses
 use Rattle.pid_tables.specs.Rows.Leaves.{AtRest, OnlyReads}
@@ -11,7 +10,7 @@ use Rattle.pid_tables.proofs.AtOnceLemmas.{reads_back}
 use Rattle.pid_tables.specs.ShowsOrBlank.{ShowsOrBlank}
 use Rattle.pid_tables.proofs.OfRows.OnlyReading.{reads_then, rests_in_still}
 use Rattle.pid_tables.proofs.StandLemmas.{only_store_explains, seen_still}
-use Rattle.pid_service.proofs.Words.{Already, Brings, Created, Damaged, Database, Explains, ExplainsNow, ExplainsOpening, Fails, FindsVersion, Ghosts, HasSomeTable, HasWritten, Held, History, IsCommitted, IsFound, IsOneStep, IsTakenBack, KeepsTables, KeepsViews, Left, MayHaveMade, Moved, new_history, NewerSchema, One, OpensAtOnce, Raised, Refuses, RestsBare, RestsIn, state, Stays, Step, Survives, TableFault, Trees, Two, views_of}
+use Rattle.pid_service.proofs.Words.{Already, Brings, Created, Database, Explains, ExplainsNow, ExplainsOpening, Fails, FindsVersion, Ghosts, HasSomeTable, HasWritten, Held, History, IsCommitted, IsFound, IsOneStep, IsTakenBack, KeepsTables, KeepsViews, Left, MayHaveMade, Moved, new_history, One, OpensAtOnce, Raised, Refuses, RestsBare, RestsIn, state, Stays, Step, Survives, TableFault, Trees, Two, views_of}
 
 -- what a step tells where the tables were not there, were in schema 1, and were in the schema of today
 pub record Steps (s : State) (h : History) (New : Type 0) (Old : Type 0) (Today : Type 0) : Type 0 where

@@ -12,7 +12,7 @@ use Rattle.pid_file.proofs.Maps.{same_texts}
 use Rattle.pid_file.specs.PathTexts.{path_text}
 use Rattle.pid_file.specs.Trees.{text_cmp}
 use Rattle.pid_ident.proofs.PathReadingLemmas.{text_of_parent}
-use Rattle.pid_service.proofs.Words.{Add, affected, Change, changed, children_of, Decided, Edit, edited, Effect, HoldsTop, Item, Items, keeping, pair_of, parent_of, Path, Receipt, Remove, Rename, stands_below, Views}
+use Rattle.pid_service.proofs.Words.{Add, affected, Change, changed, children_of, Decided, Edit, edited, Effect, HoldsTop, Item, Items, pair_of, parent_of, Path, Remove, Rename, stands_below, Views}
 use Rattle.pid_service.proofs.RenewedChanges.{kept_items}
 use Rattle.pid_moderation.specs.declared.change.Write.{Write}
 use Rattle.pid_moderation.specs.declared.facts.State.{State}

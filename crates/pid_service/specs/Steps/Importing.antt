@@ -22,7 +22,6 @@ use Rattle.pid_service.specs.Histories.{IsMemoryOrStore, IsReached, OverHistory,
 use Rattle.pid_service.specs.Importing.{ObeysImport}
 use Rattle.pid_service.specs.Obeying.{ImportFaults}
 use Rattle.pid_service.specs.Registries.{HasCleanDisk, KeepsLimit, is_live}
-use Rattle.pid_service.specs.Steps.Obeying.{StaysLive}
 
 -- The registry is as live as before. Or the answer is not that it had failed, and memory ran out
 -- or the store failed.

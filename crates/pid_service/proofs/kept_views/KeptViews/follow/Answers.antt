@@ -1,7 +1,5 @@
-use Rattle.std.proofs.Common.{◌≡◌, ℕ, false, Option, Some, None, refl, rules, sym, subst, ◌∙◌}
-use Rattle.std.specs.Prelude.{Vec}
-use Rattle.std.specs.declared.alloc.Global.{Global}
-use Rattle.pid_service.proofs.Words.{affected, Change, changed, HoldsChanges, HoldsNumbers, HoldsPending, HoldsText, HoldsTop, Item, Items, keeping, KeptChanges, KeptText, name_at, Receipt, Searches, Views}
+use Rattle.std.proofs.Common.{◌≡◌, false, Option, rules, sym, subst, ◌∙◌}
+use Rattle.pid_service.proofs.Words.{affected, Change, changed, HoldsNumbers, HoldsText, Items, KeptText, name_at, Searches, Views}
 use Rattle.pid_service.proofs.AccountCounts.{still_accounts}
 use Rattle.pid_service.proofs.Keeping.{same_items}
 use Rattle.pid_service.proofs.PendingNumbers.{still_pending}
