@@ -72,8 +72,3 @@ pairs f g (Some x) a b name rows =
     let first : a ≡ f x = ap (λ o. unwrap_or o a) name in
     let second : b ≡ g x = ap (λ o. unwrap_or o b) rows in
     λ i. Some (sym first i, sym second i)
-
--- where there is no name, there is no pair
-pub no_pair : {X A B : Type 0} (f : X → A) (g : X → B) (o : Option X) → None ≡ option_map f o → option_map {T = X} {U = A × B} (λ x. (f x, g x)) o ≡ None
-no_pair f g None name = refl
-no_pair f g (Some x) name = absurd (true≢false (sym (ap is_some name)))

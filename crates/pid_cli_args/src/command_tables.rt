@@ -57,13 +57,12 @@ fn arg_of<'a>(alloc: Global, argument: &Argument<'a>) -> Arg<'a>
 
 fn with_arguments<'a>(
     alloc: Global,
-    command: Command<'a>,
+    mut command: Command<'a>,
     arguments: &[Argument<'a>],
 ) -> Result<Command<'a>, AllocError>
     requires { (out-Command command).has_globals ≡ false }
     ensures { IfOk result (IsCommand (fold with_argument (app_of command.entry) arguments.now)) }
 {
-    let mut command = command;
     for argument in arguments {
         command = command.arg(arg_of(alloc, argument))?;
     }
@@ -85,12 +84,11 @@ fn command_of<'a>(alloc: Global, row: &Row<'a>) -> Result<Command<'a>, AllocErro
 /// The command with those of the rows below it, in this order.
 pub(crate) fn with_rows<'a>(
     alloc: Global,
-    command: Command<'a>,
+    mut command: Command<'a>,
     rows: &[Row<'a>],
 ) -> Result<Command<'a>, AllocError>
     ensures { IfOk result (λ c. app_of c ≡ fold with_row (app_of command.entry) rows.now) }
 {
-    let mut command = command;
     for row in rows {
         let Ok(below) = command_of(alloc, row) else {
             drop(command);

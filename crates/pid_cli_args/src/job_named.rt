@@ -1,7 +1,7 @@
 //! The job that the arguments name.
 ghost use Rattle.std.specs.Prelude.{◌≡◌, IfOk, codes, map, string_bytes};
 ghost use Rattle.clap.specs.Walk.{first_of, rows_of};
-ghost use Rattle.clap.specs.Words.{FailsBy, found_of};
+ghost use Rattle.clap.specs.Words.{FailsBy, found_of, subcommand_rows_of};
 ghost use Rattle.pid_cli_args.specs.Commands.{of_import, of_lookup};
 ghost use Rattle.pid_cli_args.specs.Jobs.{
   argument_values,
@@ -10,6 +10,7 @@ ghost use Rattle.pid_cli_args.specs.Jobs.{
   lookup_values,
   needed,
   number_given,
+  task_given,
   task_meant,
   task_named,
   task_of,
@@ -102,6 +103,15 @@ fn job_named<'a>(name: &str, given: &ArgMatches<'a>) -> Job<'a>
     }
 }
 
+fn job_given<'a>(matches: &ArgMatches<'a>) -> Job<'a>
+    ensures { task_of result ≡ task_given (subcommand_rows_of matches.now) }
+{
+    match matches.subcommand() {
+        Some((name, given)) => job_named(name, given),
+        None => Job::Tidy,
+    }
+}
+
 /// The job that the arguments name. The first of them is the program's name; if it is the only one,
 /// the job is `tidy`. The error is out of memory, or of a kind that the arguments have.
 pub fn job_of<'a>(alloc: Global, words: &'a [String]) -> Result<Job<'a>, Error>
@@ -109,8 +119,5 @@ pub fn job_of<'a>(alloc: Global, words: &'a [String]) -> Result<Job<'a>, Error>
     ensures fails { FailsBy (faults_of (map string_bytes words.now)) result }
 {
     let matches = commands(alloc)?.try_get_matches_from(words)?;
-    match matches.subcommand() {
-        Some((name, given)) => Ok(job_named(name, given)),
-        None => Ok(Job::Tidy),
-    }
+    Ok(job_given(&matches))
 }

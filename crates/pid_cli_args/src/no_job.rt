@@ -49,7 +49,7 @@ fn hint(words: &[String]) -> &'static str {
         "lookup" | "script" | "import" | "export" | "serve" | "migrate" => "",
         "check" => "To read a file, redirect standard input: pciids check < FILE\n",
         "tidy" => "To read a file, redirect standard input: pciids tidy < FILE\n",
-        _ if word.starts_with('-') => "",
+        _ if matches!(word.as_bytes(), [b'-', ..]) => "",
         _ => "To read a file, redirect standard input: pciids < FILE\n",
     }
 }

@@ -21,5 +21,14 @@ use std::io::Write;
 
 // Says what a file is or does, or after a front such as `cannot open `, why not.
 fn say(rt: &HostRuntime, front: &str, path: &str, between: &str, what: &str) {
-    let _ = write!(rt.stderr(), "pciids: {front}{path}{between}{what}\n");
+    write_parts(rt, &["pciids: ", front, path, between, what, "\n"]);
+}
+
+// Writes the parts of a line to standard error, up to the first that fails.
+fn write_parts(rt: &HostRuntime, parts: &[&str]) {
+    for part in parts {
+        if rt.stderr().write_all(part.as_bytes()).is_err() {
+            return;
+        }
+    }
 }

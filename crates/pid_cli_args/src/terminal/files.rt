@@ -13,14 +13,33 @@ pub const OPEN: &str = "cannot open ";
 
 const READ: &str = "cannot read ";
 
+/// What there is at a path.
+#[derive(Clone, Copy)]
+pub enum Found {
+    Folder,
+    /// A regular file, with its length in bytes.
+    File(u64),
+    Other,
+}
+
+/// What there is at a path, or why that is not known.
+pub fn look_at(rt: &HostRuntime, path: &str) -> Result<Found, ErrorKind> {
+    match fs::metadata(rt, path) {
+        Ok(found) if found.is_dir() => Ok(Found::Folder),
+        Ok(found) if found.is_file() => Ok(Found::File(found.len())),
+        Ok(_) => Ok(Found::Other),
+        Err(error) => Err(error.kind()),
+    }
+}
+
 /// How a regular file begins; or which step fails, and why. What is no regular file is not opened,
 /// since that may wait.
 pub fn prefix_of(rt: &HostRuntime, path: &str) -> Result<Prefix, (&'static str, ErrorKind)> {
-    match fs::metadata(rt, path) {
-        Err(error) => Err((OPEN, error.kind())),
-        Ok(found) if found.is_dir() => Err((READ, ErrorKind::IsADirectory)),
-        Ok(found) if !found.is_file() => Err((READ, ErrorKind::Other)),
-        Ok(_) => match File::open(rt, path) {
+    match look_at(rt, path) {
+        Err(fault) => Err((OPEN, fault)),
+        Ok(Found::Folder) => Err((READ, ErrorKind::IsADirectory)),
+        Ok(Found::Other) => Err((READ, ErrorKind::Other)),
+        Ok(Found::File(_)) => match File::open(rt, path) {
             Err(error) => Err((OPEN, error.kind())),
             Ok(mut file) => Prefix::read(&mut file).map_err(|error| (READ, error.kind())),
         },
@@ -47,9 +66,10 @@ pub fn explain_looks(rt: &HostRuntime, path: &str) {
 
 /// Says whether a file is too large.
 pub fn explain_size(rt: &HostRuntime, path: &str) {
-    if let Ok(found) = fs::metadata(rt, path) {
-        if found.len() > LARGEST as u64 {
+    match look_at(rt, path) {
+        Ok(Found::File(length)) if length > LARGEST as u64 => {
             say(rt, "", path, " ", "is larger than 4,194,304 bytes");
         }
+        _ => {}
     }
 }

@@ -1,11 +1,14 @@
 //! The lines of a script: which one is being answered, and which were refused.
 ghost use Rattle.std.specs.Io.{ReadsAtMost};
+ghost use Rattle.std.specs.Prelude.{◌≤◌};
 
 use crate::terminal::prefix::Prefix;
+use crate::terminal::{say, write_parts};
+use itoa::Buffer;
 use memchr::memchr;
 use std::cell::Cell;
 use std::io;
-use std::io::{BufRead, BufReader, Read, Stdin, Write};
+use std::io::{BufRead, BufReader, Read, Stdin};
 
 /// The room for what is read of a script at once, in bytes.
 const BUFFER: usize = 65_536;
@@ -16,7 +19,8 @@ const MOST: u64 = 5_000_000;
 /// What is known of the lines of a script.
 #[derive(Drop)]
 pub struct Lines {
-    // The number of the line that was read last, or of the first that was refused.
+    // The number of the line that was read last, or of the first that was refused; `MOST` if lines
+    // are not read one by one.
     number: Cell<u64>,
     refused: Cell<u64>,
     /// How the first reply begins that refuses a line.
@@ -33,11 +37,6 @@ impl Lines {
         }
     }
 
-    // Whether the number of the line that is answered may still be asked for.
-    fn are_numbered(&self) -> bool {
-        self.refused.get() == 0 && self.number.get() < MOST
-    }
-
     /// Counts the replies that end in these bytes and refuse a line, the first of which began with
     /// what is kept of it. Returns what is kept of the one after them.
     ///
@@ -50,43 +49,38 @@ impl Lines {
                 line.push(*byte);
                 continue;
             }
-            if line.as_str().starts_with("refused ") {
-                self.refuse(line);
+            if line.as_bytes().starts_with(b"refused ") {
+                if self.refused.get() == 0 {
+                    self.first.set(line);
+                }
+                self.refused.set(self.refused.get().saturating_add(1));
             }
             line = Prefix::new();
         }
         line
     }
 
-    fn refuse(&self, reply: Prefix) {
-        if self.refused.get() == 0 {
-            self.first.set(reply);
-        }
-        self.refused.set(self.refused.get().saturating_add(1));
-    }
-
     /// Says how many lines were refused, and which was the first one and why.
     pub fn report_refused(&self, rt: &HostRuntime, why: &str) {
-        let mut faults = rt.stderr();
-        let _ = match (self.refused.get(), self.number.get()) {
-            (count, 0 | MOST..) => {
-                write!(
-                    faults,
-                    "pciids: lines refused: {count}, the first one: {why}\n"
-                )
-            }
-            (1, number) => write!(faults, "pciids: line {number} was refused: {why}\n"),
-            (count, number) => write!(
-                faults,
-                "pciids: {count} lines were refused, the first is line {number}: {why}\n"
-            ),
-        };
+        let (mut of_count, mut of_number) = (Buffer::new(), Buffer::new());
+        let count = of_count.format(self.refused.get());
+        let number = of_number.format(self.number.get());
+        match (self.refused.get(), self.number.get()) {
+            (_, 0 | MOST..) => say(rt, "lines refused: ", count, ", the first one: ", why),
+            (1, _) => say(rt, "line ", number, " was refused: ", why),
+            _ => say_many(rt, count, number, why),
+        }
     }
 }
 
+fn say_many(rt: &HostRuntime, count: &str, number: &str, why: &str) {
+    let between = " lines were refused, the first is line ";
+    write_parts(rt, &["pciids: ", count, between, number, ": ", why, "\n"]);
+}
+
 /// A reader of what the inner one reads, at most a line at a time: so a script has answered all
-/// lines but the one that it was given last. Once a line was refused, and if the buffer has no room,
-/// it reads as the inner one does.
+/// lines but the one that it was given last. Once a line was refused, and if lines are not read one
+/// by one, it reads as the inner one does.
 #[derive(Drop)]
 pub struct ScriptInput<'l, R> {
     inner: BufReader<R>,
@@ -105,6 +99,9 @@ pub fn script_input<'l>(
         Ok(input) => input,
         Err(_) => BufReader::with_capacity(rt.alloc(), 0, rt.stdin()).unwrap(),
     };
+    if inner.capacity() == 0 {
+        lines.number.set(MOST);
+    }
     ScriptInput {
         inner,
         is_in_line: false,
@@ -114,10 +111,18 @@ pub fn script_input<'l>(
 
 impl<R: Read> Read for ScriptInput<'_, R> {
     fn read(&mut self, buffer: &mut [u8]) -> io::Result<usize> {
-        if self.inner.capacity() == 0 || !self.lines.are_numbered() {
+        if self.lines.refused.get() > 0 || self.lines.number.get() >= MOST {
             return self.inner.read(buffer);
         }
-        let length = length_of_line(self.inner.fill_buf()?).min(buffer.len());
+        self.read_line(buffer)
+    }
+}
+
+impl<R: Read> ScriptInput<'_, R> {
+    fn read_line(&mut self, buffer: &mut [u8]) -> io::Result<usize>
+        ensures { ReadsAtMost result buffer.new }
+    {
+        let (length, is_ended) = begin_of_line(self.inner.fill_buf()?, buffer.len());
         if length == 0 {
             return Ok(0);
         }
@@ -125,16 +130,17 @@ impl<R: Read> Read for ScriptInput<'_, R> {
             let number = &self.lines.number;
             number.set(number.get().saturating_add(1));
         }
-        let read = self.inner.read(&mut buffer[..length])?;
-        self.is_in_line = buffer[..read].last() != Some(&b'\n');
-        Ok(read)
+        self.is_in_line = !is_ended;
+        self.inner.read(&mut buffer[..length])
     }
 }
 
-// The length of the first line, with its LF, or of what there is of it.
-fn length_of_line(bytes: &[u8]) -> usize {
+// How many bytes of the first line there are, of so many at the most, and whether its LF is one.
+fn begin_of_line(bytes: &[u8], most: usize) -> (usize, bool)
+    ensures { result.0 ≤ most }
+{
     match memchr(b'\n', bytes) {
-        Some(end) => end.saturating_add(1),
-        None => bytes.len(),
+        Some(end) if end < most => (end + 1, true),
+        _ => (bytes.len().min(most), false),
     }
 }

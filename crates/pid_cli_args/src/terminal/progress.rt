@@ -2,9 +2,9 @@
 
 use crate::terminal::prefix::Prefix;
 use crate::terminal::seen::Looks;
+use crate::terminal::write_parts;
 use itoa::Buffer;
 use memchr::memchr_iter;
-use std::io::Write;
 use std::time::{Duration, Instant};
 
 /// How long a job runs before its progress is shown, in milliseconds.
@@ -47,7 +47,7 @@ impl<'r> Progress<'r> {
     /// Erases the line, so that other text can take its place.
     pub fn clear(&mut self) {
         if self.is_shown {
-            let _ = self.rt.stderr().write_all(CLEARED.as_bytes());
+            write_parts(self.rt, &[CLEARED]);
             self.is_shown = false;
         }
     }
@@ -66,7 +66,7 @@ impl<'r> Progress<'r> {
         if let Ok(now) = Instant::now(self.rt) {
             if now >= due {
                 let lines = grouped(self.lines);
-                let _ = write!(self.rt.stderr(), "\r{}: {} lines", self.job, lines.as_str());
+                write_parts(self.rt, &["\r", self.job, ": ", lines.as_str(), " lines"]);
                 self.is_shown = true;
                 self.due = instant_after(self.rt, PAUSE);
             }

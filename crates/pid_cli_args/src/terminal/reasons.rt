@@ -1,13 +1,12 @@
 //! Why a registry, the folder of a journal or a port could not be had. Each is tried again.
 
 use crate::job::Job;
-use crate::terminal::files::prefix_of;
+use crate::terminal::files::{Found, look_at, prefix_of};
 use crate::terminal::say;
 use itoa::Buffer;
 use pid_cli_help::reason_of;
 use sqlite_disk::Unknown;
 use sqlite_std_file::{OpenError, open};
-use std::fs;
 use std::fs::File;
 use std::io::ErrorKind;
 use std::net::{IpAddr, Ipv4Addr, SocketAddr, TcpListener};
@@ -17,8 +16,8 @@ const DATABASE: &[u8] = b"SQLite format 3\0";
 
 /// Why the file of a registry could not be opened.
 pub fn reason_of_store(rt: &HostRuntime, path: &str) -> &'static str {
-    match fs::metadata(rt, path) {
-        Ok(found) if found.is_dir() => reason_of(ErrorKind::IsADirectory),
+    match look_at(rt, path) {
+        Ok(Found::Folder) => reason_of(ErrorKind::IsADirectory),
         _ => reason_of_file(rt, path),
     }
 }
@@ -50,13 +49,11 @@ fn reason_of_contents(rt: &HostRuntime, path: &str) -> &'static str {
 
 /// Why the folder of a journal could not be opened.
 pub fn reason_of_folder(rt: &HostRuntime, path: &str) -> &'static str {
-    match fs::metadata(rt, path) {
-        Ok(found) if found.is_dir() => reason_within(rt, path),
+    match look_at(rt, path) {
+        Ok(Found::Folder) => reason_within(rt, path),
         Ok(_) => "it is no folder",
-        Err(error) => match error.kind() {
-            ErrorKind::NotFound => "there is no such folder",
-            fault => reason_of(fault),
-        },
+        Err(ErrorKind::NotFound) => "there is no such folder",
+        Err(fault) => reason_of(fault),
     }
 }
 

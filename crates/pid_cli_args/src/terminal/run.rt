@@ -1,7 +1,7 @@
 //! A run of the program, with a person at the terminal.
 
-use crate::job::Job;
-use crate::terminal::files::{OPEN, explain_looks, explain_size, explain_unread};
+use crate::job::{ImportArgs, Job, LookupArgs, ServeArgs};
+use crate::terminal::files::{OPEN, explain_looks, explain_size, explain_unread, look_at};
 use crate::terminal::lines::{Lines, ScriptInput, script_input};
 use crate::terminal::prefix::Prefix;
 use crate::terminal::reasons::{explain_port, reason_of_folder, reason_of_store};
@@ -10,8 +10,7 @@ use crate::terminal::seen::{Looks, Seen};
 use crate::terminal::values::{explain_lookup, explain_sender};
 use pid_cli_help::{Met, Noted, explain_streams, is_for_a_person, report_input};
 use std::cell::Cell;
-use std::fs;
-use std::io::{Stderr, Stdin, Stdout};
+use std::io::{ErrorKind, Stderr, Stdin, Stdout};
 
 /// A run, and what is said of it at a terminal. Where standard error is no terminal, only a registry
 /// that an `export` made is spoken of.
@@ -19,6 +18,7 @@ use std::io::{Stderr, Stdin, Stdout};
 pub struct Run<'r> {
     rt: &'r HostRuntime,
     job: Job<'r>,
+    files: Files<'r>,
     is_at_terminal: bool,
     // How what was reported begins.
     reported: Cell<Prefix>,
@@ -34,15 +34,17 @@ impl<'r> Run<'r> {
         if is_at_terminal {
             report_reading(rt, job);
         }
+        let files = files_of(job);
         // An export may make a new registry.
         let is_spoken_of = is_at_terminal || matches!(job, Job::Export { .. });
         Run {
             rt,
             job,
+            files,
             is_at_terminal,
             reported: Cell::new(Prefix::new()),
             lines: Lines::new(),
-            is_awaited: Cell::new(is_spoken_of && is_missing(rt, files_of(job).0)),
+            is_awaited: Cell::new(is_spoken_of && is_missing(rt, files.registry)),
         }
     }
 
@@ -78,40 +80,46 @@ impl<'r> Run<'r> {
                 self.explain_refusal();
             }
         }
-        if !fault.starts_with("open: ") {
+        if !fault.as_bytes().starts_with(b"open: ") {
             // A journal that failed gave no commands.
-            self.report_made(!fault.starts_with("journal: "));
+            self.report_made(!fault.as_bytes().starts_with(b"journal: "));
         }
     }
 
     // Says once that the file of the registry was made, if it was.
     fn report_made(&self, is_by_journal: bool) {
-        let (path, journal, _) = files_of(self.job);
+        let path = self.files.registry;
         if !self.is_awaited.get() || is_missing(self.rt, path) {
             return;
         }
         self.is_awaited.set(false);
-        let (between, what) = match journal {
-            Some(folder) if is_by_journal => (MADE_BY, folder),
-            _ => (" was not there: ", "a new, empty registry was made"),
-        };
-        say(self.rt, "", path, between, what);
+        match self.files.journal {
+            Some(folder) if is_by_journal => say(self.rt, "", path, MADE_BY, folder),
+            _ => say(self.rt, "", path, MADE, "a new, empty registry was made"),
+        }
     }
 
     fn explain_fault(&self, fault: &str, read: &Met, written: &Met) {
-        let (rt, (registry, journal, ids)) = (self.rt, files_of(self.job));
-        let journal = journal.unwrap_or("");
-        match (fault, ids) {
-            ("file: failed", Some(ids)) if written.fault.is_none() => explain_unread(rt, ids),
-            ("file: failed", _) => explain_streams(rt, 3, read, written),
-            ("socket: failed", _) => explain_port(rt, self.job),
-            ("open: Store", _) => say(rt, OPEN, registry, ": ", reason_of_store(rt, registry)),
-            ("open: Damaged", _) => say(rt, "", registry, " ", DAMAGED),
-            ("journal: Another", _) => say(rt, "", journal, " ", ANOTHER),
-            ("journal: Missing", _) => say(rt, "", journal, " ", MISSING),
-            ("journal: failed", _) => say(rt, OPEN, journal, ": ", reason_of_folder(rt, journal)),
-            (fault, Some(ids)) if fault.starts_with("line ") => explain_looks(rt, ids),
-            _ => {}
+        let (rt, registry) = (self.rt, self.files.registry);
+        let journal = self.files.journal.unwrap_or("");
+        match fault {
+            "open: Store" => say(rt, OPEN, registry, ": ", reason_of_store(rt, registry)),
+            "open: Damaged" => say(rt, "", registry, " ", DAMAGED),
+            "journal: Another" => say(rt, "", journal, " ", ANOTHER),
+            "journal: Missing" => say(rt, "", journal, " ", MISSING),
+            "journal: failed" => say(rt, OPEN, journal, ": ", reason_of_folder(rt, journal)),
+            _ => self.explain_stream(fault, read, written),
+        }
+    }
+
+    fn explain_stream(&self, fault: &str, read: &Met, written: &Met) {
+        let (rt, ids) = (self.rt, self.files.ids);
+        match ids {
+            _ if fault == "socket: failed" => explain_port(rt, self.job),
+            Some(ids) if fault.as_bytes().starts_with(b"line ") => explain_looks(rt, ids),
+            _ if fault != "file: failed" => {}
+            Some(ids) if written.fault.is_none() => explain_unread(rt, ids),
+            _ => explain_streams(rt, 3, read, written),
         }
     }
 
@@ -120,20 +128,25 @@ impl<'r> Run<'r> {
         let Some(refusal) = first.as_str().strip_prefix("refused ") else {
             return;
         };
-        match (self.job, refusal) {
-            (Job::Script { .. }, _) => self.lines.report_refused(rt, refusal),
-            (Job::Lookup(words), "3 BadText") => explain_lookup(rt, &words),
-            (Job::Import(words), "3 BadText") => {
-                explain_sender(rt, &words);
-                explain_size(rt, words.ids);
-            }
-            (Job::Import(words), _) if refusal.starts_with("14 FileFault line=1 ") => {
-                explain_looks(rt, words.ids);
-            }
+        match &self.job {
+            Job::Script { .. } => self.lines.report_refused(rt, refusal),
+            Job::Lookup(words) if refusal == "3 BadText" => explain_lookup(rt, words),
+            Job::Import(words) => explain_import(rt, words, refusal),
             _ => {}
         }
     }
 }
+
+fn explain_import(rt: &HostRuntime, words: &ImportArgs<'_>, refusal: &str) {
+    if refusal == "3 BadText" {
+        explain_sender(rt, words);
+        explain_size(rt, words.ids);
+    } else if refusal.as_bytes().starts_with(b"14 FileFault line=1 ") {
+        explain_looks(rt, words.ids);
+    }
+}
+
+const MADE: &str = " was not there: ";
 
 const MADE_BY: &str = " was not there: it was made, with the commands of ";
 
@@ -143,15 +156,35 @@ const ANOTHER: &str = "is the journal of another registry: nothing was changed";
 
 const MISSING: &str = "begins after the registry, or lacks a file in between";
 
-// The file of the registry, which a job may make; the folder of its journal; the pci.ids file.
-fn files_of(job: Job<'_>) -> (&str, Option<&str>, Option<&str>) {
-    match job {
+// The file of the registry, which a job may make, or no text; the folder of its journal; the pci.ids
+// file.
+#[derive(Clone, Copy)]
+struct Files<'r> {
+    registry: &'r str,
+    journal: Option<&'r str>,
+    ids: Option<&'r str>,
+}
+
+fn files_of<'r>(job: Job<'r>) -> Files<'r> {
+    let (registry, journal, ids) = match job {
         Job::Tidy | Job::Check => ("", None, None),
-        Job::Lookup(words) => ("", None, Some(words.ids)),
+        Job::Lookup(LookupArgs { ids, .. }) => ("", None, Some(ids)),
         Job::Script { db, journal } => (db.unwrap_or(""), journal, None),
-        Job::Import(words) => (words.db, words.journal, Some(words.ids)),
-        Job::Serve(words) => (words.db, words.journal, None),
+        Job::Import(
+            ImportArgs {
+                db,
+                journal,
+                ids,
+                ..
+            },
+        ) => (db, journal, Some(ids)),
+        Job::Serve(ServeArgs { db, journal, .. }) => (db, journal, None),
         Job::Export { db } | Job::Migrate { db } => (db, None, None),
+    };
+    Files {
+        registry,
+        journal,
+        ids,
     }
 }
 
@@ -165,7 +198,7 @@ fn report_reading(rt: &HostRuntime, job: Job<'_>) {
 
 // Whether there is nothing at a path, if one is named.
 fn is_missing(rt: &HostRuntime, path: &str) -> bool {
-    path != "" && matches!(fs::exists(rt, path), Ok(false))
+    path != "" && matches!(look_at(rt, path), Err(ErrorKind::NotFound))
 }
 
 /// Notes how what is reported begins.

@@ -1,12 +1,9 @@
 use Rattle.std.proofs.Common.{◌≡◌, ℕ, true, List, Result, Err, ap, sym, refl, subst, ◌∙◌, map, string_bytes}
 use Rattle.std.proofs.lemmas.Result.{err_from_is_err_and}
-use Rattle.std.specs.Box.{box_value}
-use Rattle.clap.specs.Words.{App, found_of, is_simple, rows_of, subcommand_of, fault_of, is_simple_and_free, FailsBy, HasKind}
+use Rattle.clap.specs.Words.{App, is_simple, subcommand_of, fault_of, is_simple_and_free, FailsBy, HasKind}
 use Rattle.clap.specs.declared.error.Error.{Error}
-use Rattle.clap.specs.declared.parser.matches.ArgMatches.TheViews.{out-ArgMatches, out-SubCommand}
 use Rattle.pid_cli_args.specs.Commands.{commands}
 use Rattle.pid_cli_args.specs.Jobs.{faults_of, task_given}
-use Rattle.pid_cli_args.proofs.Values.{no_pair, pairs}
 use Rattle.pid_cli_args.proofs.job_named.job_of.Goals as goal
 
 all_simple : is_simple commands ≡ true
@@ -28,22 +25,10 @@ returns-in_err-matches-clause-fails c =
     let p = err_from_is_err_and c.from_residual-in_err-matches.result c.from_residual-in_err-matches.ensures.1 in
     handed_on _ _ _ _ _ c.in_ok-commands.ensures (c.in_err-matches.ensures.kinds (ap is_simple_and_free c.in_ok-commands.ensures ∙ simple)) p.1 p.2
 
-pub returns-in-Some-clause-fails : goal.returns-in-Some-clause-fails
-returns-in-Some-clause-fails c = unfold faults_of in ap (λ a. fault_of a (map string_bytes c.args.words.now)) (sym c.in_ok-commands.ensures) ∙ c.in_ok-matches.ensures.kinds (ap is_simple_and_free c.in_ok-commands.ensures ∙ simple)
-
 pub returns-clause-fails : goal.returns-clause-fails
 returns-clause-fails c = unfold faults_of in ap (λ a. fault_of a (map string_bytes c.args.words.now)) (sym c.in_ok-commands.ensures) ∙ c.in_ok-matches.ensures.kinds (ap is_simple_and_free c.in_ok-commands.ensures ∙ simple)
 
-pub returns-in-Some-clause-job : goal.returns-in-Some-clause-job
-returns-in-Some-clause-job c =
-    let said = c.in-Some.ensures in
-    let found = pairs (λ b. (out-SubCommand (box_value b)).name.now) (λ b. rows_of (found_of (out-SubCommand (box_value b)).matches)) (out-ArgMatches c.in_ok-matches.matches).subcommand
-    c.in-Some.name.now (rows_of (found_of c.in-Some.given.now)) said.name said.rows in
-    let meant = (c.in_ok-matches.ensures.matches (ap is_simple c.in_ok-commands.ensures ∙ all_simple)).1 in
-    c.job_named.ensures ∙ ap task_given (sym found ∙ meant ∙ ap (λ (a : App). subcommand_of a (map string_bytes c.args.words.now)) c.in_ok-commands.ensures)
-
 pub returns-clause-job : goal.returns-clause-job
 returns-clause-job c =
-    let none = no_pair (λ b. (out-SubCommand (box_value b)).name.now) (λ b. rows_of (found_of (out-SubCommand (box_value b)).matches)) (out-ArgMatches c.in_ok-matches.matches).subcommand c.in-None.ensures.name in
     let meant = (c.in_ok-matches.ensures.matches (ap is_simple c.in_ok-commands.ensures ∙ all_simple)).1 in
-    ap task_given (sym none ∙ meant ∙ ap (λ (a : App). subcommand_of a (map string_bytes c.args.words.now)) c.in_ok-commands.ensures)
+    c.job_given.ensures ∙ ap task_given (meant ∙ ap (λ (a : App). subcommand_of a (map string_bytes c.args.words.now)) c.in_ok-commands.ensures)
