@@ -11,6 +11,7 @@ use crate::running::run_on_host;
 use pid_cli_args::terminal::Run;
 use pid_cli_args::{job_of, report_no_job};
 use pid_cli_help::Met;
+use pid_cli_jobs::HostFiles;
 use pid_file::report_no_words;
 use sqlite_disk::Unknown;
 use std::process::ExitCode;
@@ -34,7 +35,7 @@ fn main(rt: HostRuntime) -> ExitCode {
     let (mut read, mut written) = (Met::new(), Met::new());
     let status = run_on_host(
         &rt,
-        Unknown,
+        HostFiles::new(&rt, Unknown),
         job,
         &mut run.input(&mut read),
         &mut run.output(&mut written),

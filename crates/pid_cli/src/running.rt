@@ -4,31 +4,27 @@ use crate::exporting::export;
 use crate::migrating::migrate;
 use pid_cli_args::Job;
 use pid_cli_args::terminal::{Counted, Progress, Seen};
-use pid_cli_jobs::{
-    Host, HostFolders, InMemory, Machine, answer_lookup, report_end, run_import, run_script,
-    run_serve,
-};
+use pid_cli_jobs::{DatabaseFiles, Host, Machine, answer_lookup, report_end, run_on_registry};
 use pid_file::{TextEnd, Watched, report_text_end, run_check, run_tidy};
 use pid_ident::{Output, Plain};
-use sqlite_disk::Start;
 use std::io::{BufWriter, IsTerminal, Read, Write};
 
 const BUFFER: usize = 65_536;
 
-/// Does a job on the machine of the process, and returns the exit status. `start` is as for
+/// Does a job on the machine of the process, and returns the exit status. `files` is as for
 /// `Host::new`.
 ///
 /// Faults are found in this order: the folder of the journal; the account, the key and the values of
 /// a lookup; the opening of the pci.ids file; the database; the journal; the port; the rest.
-pub fn run_on_host<S: Start, I: Read, O: Write, F: Write>(
+pub fn run_on_host<P: DatabaseFiles, I: Read, O: Write, F: Write>(
     rt: &HostRuntime,
-    start: S,
+    files: P,
     job: Job<'_>,
     input: &mut I,
     output: &mut O,
     faults: &mut F,
 ) -> u8 {
-    run_job(rt, &mut Host::new(rt, start), job, input, output, faults)
+    run_job(rt, &mut Host::new(rt, files), job, input, output, faults)
 }
 
 // Does a job on any machine. The runtime shows the progress and has the folders of journals, and is
@@ -41,38 +37,21 @@ fn run_job<M: Machine, I: Read, O: Write, F: Write>(
     output: &mut O,
     faults: &mut F,
 ) -> u8 {
-    let journals = &mut HostFolders(rt);
     let alloc = machine.alloc();
+    match job {
+        Job::Tidy => return run_tidy(alloc, input, output, faults).0,
+        Job::Check => return run_check(alloc, input, output, faults).0,
+        Job::Export { db } => return run_export(rt, machine, db, output, &mut Plain::new(faults)),
+        _ => {}
+    }
     let mut to = Plain::new(Watched::new(output));
     let mut errors = Plain::new(faults);
     let end = match job {
-        Job::Tidy => return run_tidy(alloc, input, bare(to), errors.into_inner()).0,
-        Job::Check => return run_check(alloc, input, bare(to), errors.into_inner()).0,
-        Job::Export { db } => return run_export(rt, machine, db, bare(to), &mut errors),
         Job::Lookup(words) => answer_lookup(machine, &words, &mut to, &mut errors),
-        Job::Script { db, journal } => {
-            let (to, errors) = (&mut to, &mut errors);
-            match db {
-                Some(db) => run_script(machine, Alone, journals, db, journal, input, to, errors),
-                None => {
-                    let memory = &mut InMemory(alloc);
-                    run_script(memory, Alone, journals, "", journal, input, to, errors)
-                }
-            }
-        }
-        Job::Import(words) => {
-            let progress = &mut Progress::new(rt, "importing", rt.stderr().is_terminal());
-            let (to, errors) = (&mut to, &mut errors);
-            run_import(machine, Alone, journals, progress, &words, to, errors)
-        }
-        Job::Serve(words) => run_serve(machine, Alone, journals, &words, &mut to, &mut errors),
         Job::Migrate { db } => migrate(machine, db, &mut to, &mut errors),
+        _ => run_on_registry(rt, machine, Alone, job, input, &mut to, &mut errors),
     };
     report_end(end, to.into_inner().is_unread(), &mut errors)
-}
-
-fn bare<O: Write + Drop>(output: Plain<Watched<O>>) -> O {
-    output.into_inner().into_inner()
 }
 
 fn run_export<M: Machine, O: Write, F: Output>(

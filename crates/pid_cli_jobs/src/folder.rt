@@ -1,7 +1,7 @@
 //! The folder of a journal on the machine of the process.
 ghost use Rattle.std.specs.Prelude.{◌≡◌, ◌+◌, ◌≤◌, IfOk, MatchResult, length};
 
-use crate::journals::{Journals, ReportingFolder};
+use crate::journals::ReportingFolder;
 use crate::lock::{Lock, take_lock};
 use crate::segment::HostSegment;
 use pid_cli_args::terminal::Progress;
@@ -54,32 +54,25 @@ fn make_folder(rt: &HostRuntime, path: &str) -> io::Result<()> {
 // The number of a segment, if this is the name of one.
 fn number_of(name: &str) -> Option<u64> {
     let digits = name.strip_suffix(".script")?;
-    if digits.len() != 20 {
+    if digits.len() != 20 || digits.starts_with('+') {
         return None;
     }
-    let mut number = 0_u64;
-    for byte in digits.as_bytes() {
-        if !byte.is_ascii_digit() {
-            return None;
-        }
-        number = number.checked_mul(10)?.checked_add(u64::from(byte - b'0'))?;
-    }
-    Some(number)
+    digits.parse().ok()
 }
 
-// The numbers of the segments in a folder, in no order.
-fn numbers_in(rt: &HostRuntime, alloc: Global, path: &str) -> io::Result<Vec<u64>> {
-    let mut numbers = Vec::new(alloc);
+// Adds the numbers of the segments in a folder, in no order.
+fn push_numbers(rt: &HostRuntime, path: &str, numbers: &mut Vec<u64>) -> io::Result<()> {
     for entry in fs::read_dir(rt, path)? {
         if let Some(number) = number_of(entry?.file_name()) {
             numbers.push(number)?;
         }
     }
-    Ok(numbers)
+    Ok(())
 }
 
 impl<'r> HostFolder<'r> {
-    fn at(rt: &'r HostRuntime, path: &str) -> Option<HostFolder<'r>> {
+    /// Opens the folder at a path, or makes it. No other program has it open then. None if that fails.
+    pub fn at(rt: &'r HostRuntime, path: &str) -> Option<HostFolder<'r>> {
         make_folder(rt, path).ok()?;
         Some(HostFolder {
             rt,
@@ -156,9 +149,9 @@ impl<'r> JournalFolder for HostFolder<'r> {
     ghost openings = { λ folder. folder.opened };
 
     fn begins(&mut self, alloc: Global) -> Result<Vec<u64>, Refusal> {
-        match numbers_in(self.rt, alloc, self.path.as_str()) {
-            Ok(numbers) => {
-                let mut numbers = numbers;
+        let mut numbers = Vec::new(alloc);
+        match push_numbers(self.rt, self.path.as_str(), &mut numbers) {
+            Ok(()) => {
                 numbers.sort_unstable();
                 Ok(numbers)
             }
@@ -212,17 +205,5 @@ impl ReportingFolder for HostFolder<'_> {
                  segment begins\n"
             );
         }
-    }
-}
-
-/// The folders of the process.
-#[derive(Clone, Copy)]
-pub struct HostFolders<'r>(pub &'r HostRuntime);
-
-impl<'r> Journals for HostFolders<'r> {
-    type Folder = HostFolder<'r>;
-
-    fn open_folder(&mut self, path: &str) -> Option<HostFolder<'r>> {
-        HostFolder::at(self.0, path)
     }
 }

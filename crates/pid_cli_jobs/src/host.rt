@@ -1,15 +1,15 @@
 //! The machine of the process.
-ghost use Rattle.std.specs.Prelude.{◌≡◌, IfOk};
+ghost use Rattle.std.specs.Prelude.{◌≡◌, IfOk, IfSome};
 ghost use Rattle.pid_cli_jobs.specs.Files.{ClosesFiles};
 ghost use Rattle.pid_cli_jobs.specs.Steps.Addresses.{IsLoopback};
 
-use crate::host_names::{HostFile, open_named};
+use crate::host_files::{DatabaseFiles, open_database};
 use crate::machine::{Databases, Machine};
 use crate::unopened::Unopened;
 use pid_http_stream::listener::{Serving, StreamServer, serve_on};
 use pid_ident::Output;
 use sqlite::{Connection, FileStore};
-use sqlite_disk::{Disk, Start};
+use sqlite_disk::Disk;
 use std::alloc::Global;
 use std::fs::File;
 use std::net::{IpAddr, Ipv4Addr, SocketAddr, TcpListener};
@@ -18,29 +18,27 @@ use std::{fs, io};
 /// The machine of the process, which opens one database. Which files its paths name is not said,
 /// nor what a socket does.
 #[derive(Drop)]
-pub struct Host<'r, S> {
+pub struct Host<'r, P> {
     rt: &'r HostRuntime,
-    start: Option<S>,
+    files: Option<P>,
 }
 
-impl<'r, S: Start> Host<'r, S> {
-    /// `start` stands for what the files of the database hold, and says how a crash is read
-    /// (`Unknown`: a torn write leaves each byte old or new; `Wary`: it may leave anything).
-    pub fn new(rt: &'r HostRuntime, start: S) -> Host<'r, S> {
+impl<'r, P: DatabaseFiles> Host<'r, P> {
+    /// `files` opens the two of the database.
+    pub fn new(rt: &'r HostRuntime, files: P) -> Host<'r, P> {
         Host {
             rt,
-            start: Some(start),
+            files: Some(files),
         }
     }
 }
 
-impl<'r, S: Start> Databases for Host<'r, S> {
-    ghost use Rattle.sqlite_wal.specs.Files.{image_at};
+impl<P: DatabaseFiles> Databases for Host<'_, P> {
     ghost use Rattle.pid_cli_jobs.specs.Files.{ClosesFiles, OpensFiles};
 
-    type Kept = FileStore<HostFile<'r, S>>;
+    type Kept = FileStore<P::File>;
 
-    ghost is_at = { λ _ conn. OpensFiles (image_at S.Start) conn };
+    ghost is_at = { λ _ conn. OpensFiles P.image conn };
 
     ghost is_closed = { λ conn. ClosesFiles conn };
 
@@ -48,21 +46,19 @@ impl<'r, S: Start> Databases for Host<'r, S> {
         self.rt.alloc()
     }
 
-    fn open(&mut self, path: &str) -> Result<Connection<FileStore<HostFile<'r, S>>>, Unopened> {
-        match self.start.take() {
-            Some(start) => open_named(self.rt, path, start),
+    fn open(&mut self, path: &str) -> Result<Connection<FileStore<P::File>>, Unopened> {
+        match self.files.take() {
+            Some(files) => open_database(self.rt, files, path),
             None => Err(Unopened::Store),
         }
     }
 
-    fn close(&mut self, conn: &mut Option<Connection<FileStore<HostFile<'r, S>>>>) {
-        if let Some(conn) = conn.take() {
-            close_files(conn);
-        }
+    fn close(&mut self, conn: &mut Option<Connection<FileStore<P::File>>>) {
+        close_files(conn);
     }
 }
 
-impl<'r, S: Start> Machine for Host<'r, S> {
+impl<P: DatabaseFiles> Machine for Host<'_, P> {
     type Opened = File;
 
     type Listener = PortListener;
@@ -92,9 +88,12 @@ impl<'r, S: Start> Machine for Host<'r, S> {
     }
 }
 
-fn close_files<D: Disk + Drop>(conn: Connection<FileStore<D>>)
-    ensures { ClosesFiles conn }
+fn close_files<D: Disk + Drop>(conn: &mut Option<Connection<FileStore<D>>>)
+    ensures { IfSome conn.old ClosesFiles }
 {
+    let Some(conn) = conn.take() else {
+        return;
+    };
     match conn.close_files() {
         Ok(_files) => {}
         Err((_, store)) => drop(store.close()),

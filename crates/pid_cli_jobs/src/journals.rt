@@ -1,4 +1,4 @@
-//! The folders of journals on a machine.
+//! What the folder of a journal reports.
 use pid_journal::JournalFolder;
 
 /// The folder of a journal, which reports what is wrong with it.
@@ -8,13 +8,4 @@ pub trait ReportingFolder: JournalFolder {
 
     /// Reports that the registry was given commands that the journal lacks.
     fn report_gap(&mut self);
-}
-
-/// Where the folders of journals are.
-pub trait Journals {
-    type Folder: ReportingFolder + Drop;
-
-    /// Opens the folder of a journal at a path, or makes it. No other program has it open then. None
-    /// if that fails.
-    fn open_folder(&mut self, path: &str) -> Option<Self::Folder>;
 }

@@ -5,6 +5,7 @@
 
 mod folder;
 mod host;
+mod host_files;
 mod host_names;
 mod imports;
 mod job_end;
@@ -22,12 +23,13 @@ mod serving;
 mod unopened;
 mod with_journal;
 
-pub use folder::{HostFolder, HostFolders};
+pub use folder::HostFolder;
 pub use host::Host;
+pub use host_files::{DatabaseFiles, HostFiles};
 pub use imports::import;
 pub use job_end::{JobEnd, print_line, report_end};
 pub use journaling::Journaling;
-pub use journals::{Journals, ReportingFolder};
+pub use journals::ReportingFolder;
 pub use lookups::answer_lookup;
 pub use machine::{Databases, InMemory, Machine};
 pub use named_file::{FileNames, NamedFile};
@@ -36,4 +38,4 @@ pub use scripts::script;
 pub use segment::HostSegment;
 pub use serving::serve;
 pub use unopened::{Unopened, report_unopened};
-pub use with_journal::{run_import, run_script, run_serve};
+pub use with_journal::run_on_registry;

@@ -109,7 +109,36 @@ fn give_streams<M: Machine, T: StreamServer, O: Output, F: Output>(
     }
 }
 
-// Listens on a port of this machine and serves a registry to so many connections, one at a time.
+// Serves a registry at a listener, to so many connections, one at a time.
+fn serve_listener<M: Machine, G: Registries<M>, O: Output, F: Output>(
+    machine: &mut M,
+    listener: &M::Listener,
+    registries: &G,
+    registry: &mut G::Registry,
+    words: &ServeArgs<'_>,
+    output: &mut O,
+    faults: &mut F,
+) -> JobEnd
+    requires { M.port_of listener.now ≡ words.now.port }
+    ensures goes { IsPartOfSession G.Registry.RegistryCalls registry.old registry.new }
+    ensures offers { Offers M.port_of M.is_serving G.Registry.is_live words.now
+        (registry.old, registry.new) (streams (use_of O.Output output.old output.new)
+        (use_of F.Output faults.old faults.new)) result }
+{
+    let alloc = machine.alloc();
+    let Ok(routes) = Routes::new(alloc) else {
+        return report_memory(faults);
+    };
+    let mut server = Server {
+        alloc,
+        registry,
+        registries,
+        routes: &routes,
+    };
+    give_streams(machine, listener, &mut server, words, output, faults)
+}
+
+// Listens on a port of this machine and serves a registry there.
 fn serve_registry<M: Machine, G: Registries<M>, O: Output, F: Output>(
     machine: &mut M,
     registries: &G,
@@ -123,20 +152,12 @@ fn serve_registry<M: Machine, G: Registries<M>, O: Output, F: Output>(
         (registry.old, registry.new) (streams (use_of O.Output output.old output.new)
         (use_of F.Output faults.old faults.new)) result }
 {
-    let alloc = machine.alloc();
     let Some(listener) = machine.listen(words.port) else {
         return report_socket(faults);
     };
-    let Ok(routes) = Routes::new(alloc) else {
-        return report_memory(faults);
-    };
-    let mut server = Server {
-        alloc,
-        registry,
-        registries,
-        routes: &routes,
-    };
-    give_streams(machine, &listener, &mut server, words, output, faults)
+    serve_listener(
+        machine, &listener, registries, registry, words, output, faults,
+    )
 }
 
 /// Serves the registry that the arguments name.

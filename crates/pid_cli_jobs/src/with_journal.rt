@@ -1,96 +1,94 @@
 //! The jobs on a registry, with a journal in front of it if the arguments name one.
+use crate::folder::HostFolder;
 use crate::imports::import;
 use crate::job_end::JobEnd;
 use crate::journaling::Journaling;
-use crate::journals::Journals;
-use crate::machine::{Databases, Machine};
+use crate::machine::{InMemory, Machine};
 use crate::registries::Registries;
 use crate::scripts::script;
 use crate::serving::serve;
 use crate::unopened::{Unopened, report_unopened};
+use pid_cli_args::Job;
 use pid_cli_args::terminal::Progress;
-use pid_cli_args::{ImportArgs, ServeArgs};
+use pid_file::FAILED;
 use pid_ident::{Output, Plain};
-use std::io::Read;
+use std::io::{IsTerminal, Read};
 
-// Opens the folder of the journal, if the arguments name one.
-fn open_folder<J: Journals>(
-    journals: &mut J,
-    journal: Option<&str>,
-) -> Result<Option<J::Folder>, Unopened> {
-    let Some(path) = journal else {
-        return Ok(None);
-    };
-    match journals.open_folder(path) {
-        Some(folder) => Ok(Some(folder)),
-        None => Err(Unopened::JournalFailed),
+// The folder of the journal that the arguments name.
+fn journal_of<'a>(job: Job<'a>) -> Option<&'a str> {
+    match job {
+        Job::Script { journal, .. } => journal,
+        Job::Import(words) => words.journal,
+        Job::Serve(words) => words.journal,
+        _ => None,
     }
 }
 
-/// Answers the lines of the input as a script.
-pub fn run_script<
-    D: Databases,
-    G: Registries<D> + Copy,
-    J: Journals,
-    I: Read,
-    O: Output,
-    F: Output,
->(
-    databases: &mut D,
-    mut registries: G,
-    journals: &mut J,
-    db: &str,
-    journal: Option<&str>,
+// Does a job on a registry that is opened so.
+fn run_with<M: Machine, G: Registries<M> + Registries<InMemory>, I: Read, O: Output, F: Output>(
+    rt: &HostRuntime,
+    machine: &mut M,
+    registries: &mut G,
+    job: Job<'_>,
     input: &mut I,
     output: &mut O,
     faults: &mut F,
 ) -> JobEnd {
-    let mut input = Plain::new(input);
-    match open_folder(journals, journal) {
-        Ok(None) => script(databases, &mut registries, db, &mut input, output, faults),
-        Ok(Some(folder)) => {
-            let mut registries = Journaling::new(registries, folder);
-            script(databases, &mut registries, db, &mut input, output, faults)
+    match job {
+        Job::Script { db: Some(db), .. } => {
+            script(
+                machine,
+                registries,
+                db,
+                &mut Plain::new(input),
+                output,
+                faults,
+            )
         }
-        Err(why) => report_unopened(why, faults),
+        Job::Script { db: None, .. } => {
+            let memory = &mut InMemory(rt.alloc());
+            script(
+                memory,
+                registries,
+                "",
+                &mut Plain::new(input),
+                output,
+                faults,
+            )
+        }
+        Job::Import(words) => {
+            let progress = &mut Progress::new(rt, "importing", rt.stderr().is_terminal());
+            import(machine, registries, progress, &words, output, faults)
+        }
+        Job::Serve(words) => serve(machine, registries, &words, output, faults),
+        // The others open no registry so.
+        _ => JobEnd::Exited(FAILED),
     }
 }
 
-/// Imports the pci.ids file that the arguments name, and shows how far it is.
-pub fn run_import<M: Machine, G: Registries<M> + Copy, J: Journals, O: Output, F: Output>(
+/// Does a job on the registry that the arguments name: answers the lines of the input as a script, in
+/// memory if no file is named; imports a pci.ids file, and shows how far it is; or serves.
+pub fn run_on_registry<
+    M: Machine,
+    G: Registries<M> + Registries<InMemory> + Copy,
+    I: Read,
+    O: Output,
+    F: Output,
+>(
+    rt: &HostRuntime,
     machine: &mut M,
     mut registries: G,
-    journals: &mut J,
-    progress: &mut Progress<'_>,
-    words: &ImportArgs<'_>,
+    job: Job<'_>,
+    input: &mut I,
     output: &mut O,
     faults: &mut F,
 ) -> JobEnd {
-    match open_folder(journals, words.journal) {
-        Ok(None) => import(machine, &mut registries, progress, words, output, faults),
-        Ok(Some(folder)) => {
-            let mut registries = Journaling::new(registries, folder);
-            import(machine, &mut registries, progress, words, output, faults)
-        }
-        Err(why) => report_unopened(why, faults),
-    }
-}
-
-/// Serves the registry that the arguments name.
-pub fn run_serve<M: Machine, G: Registries<M> + Copy, J: Journals, O: Output, F: Output>(
-    machine: &mut M,
-    mut registries: G,
-    journals: &mut J,
-    words: &ServeArgs<'_>,
-    output: &mut O,
-    faults: &mut F,
-) -> JobEnd {
-    match open_folder(journals, words.journal) {
-        Ok(None) => serve(machine, &mut registries, words, output, faults),
-        Ok(Some(folder)) => {
-            let mut registries = Journaling::new(registries, folder);
-            serve(machine, &mut registries, words, output, faults)
-        }
-        Err(why) => report_unopened(why, faults),
-    }
+    let Some(path) = journal_of(job) else {
+        return run_with(rt, machine, &mut registries, job, input, output, faults);
+    };
+    let Some(folder) = HostFolder::at(rt, path) else {
+        return report_unopened(Unopened::JournalFailed, faults);
+    };
+    let registries = &mut Journaling::new(registries, folder);
+    run_with(rt, machine, registries, job, input, output, faults)
 }
