@@ -4,13 +4,13 @@ ghost use Rattle.pid_script.specs.ScriptLines.{ask_of};
 ghost use Rattle.pid_script.specs.Steps.Output.{LeavesAnswer, out};
 
 use crate::fields::{read_command, read_path};
-use crate::line::{LineRequest, line_request};
 use crate::line_end::LineEnd;
 use crate::lookup::read_lookup;
 use crate::output::flush;
 use crate::reply::{
     refuse_long, send_answer, send_bad_text, send_found, send_name, stop_for_memory,
 };
+use crate::script_line::{LineRequest, line_request};
 use pid_ident::Output;
 use pid_moderation::Verb;
 use pid_service_laws::{ExportFault, RegistryCalls};

@@ -5,7 +5,7 @@ ghost use Rattle.pid_script.specs.Replies.{command_of};
 ghost use Rattle.pid_script.specs.ScriptLines.{ask_of};
 
 use crate::fields::read_command;
-use crate::line::{LineRequest, line_request};
+use crate::script_line::{LineRequest, line_request};
 use pid_moderation::{Command, Refusal};
 use std::alloc::Global;
 

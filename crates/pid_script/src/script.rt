@@ -32,11 +32,11 @@ ghost use Rattle.pid_script.specs.Scripts.{
 };
 
 use crate::answering::answer_line;
-use crate::line::is_too_long;
 use crate::line_end::LineEnd;
 use crate::output::flush;
 use crate::reply::{refuse_long, stop_for_memory};
 use crate::script_end::ScriptEnd;
+use crate::script_line::is_too_long;
 use pid_ident::{Incoming, Output};
 use pid_reader::{split_line, without_cr};
 use pid_service_laws::RegistryCalls;

@@ -148,8 +148,8 @@ pub use Rattle.pid_tables.specs.declared.migration.Step.{Step}
 pub use Rattle.pid_tables.specs.declared.migration.Step.TheVariants.{Already, Created, Moved}
 pub use Rattle.pid_tables.specs.declared.rows.fault.TableFault.{TableFault}
 pub use Rattle.pid_tables.specs.declared.rows.fault.TableFault.TheVariants.{Damaged, NewerSchema}
-pub use Rattle.pid_tables.specs.declared.rows.version.Version.{Version}
-pub use Rattle.pid_tables.specs.declared.rows.version.Version.TheVariants.{One, Two}
+pub use Rattle.pid_tables.specs.declared.rows.schema_version.Version.{Version}
+pub use Rattle.pid_tables.specs.declared.rows.schema_version.Version.TheVariants.{One, Two}
 pub use Rattle.pid_tables.specs.declared.searches.numbers.Searches.{Searches}
 pub use Rattle.pid_tables.specs.declared.searches.numbers.Searches.TheVariants.{Lacking, Unread}
 pub use Rattle.sqlite.specs.Effect.{Database}

@@ -19,7 +19,7 @@ use Rattle.pid_tables.specs.Rows.Faults.{IsMemoryOrStore}
 use Rattle.pid_tables.specs.Rows.Leaves.{IsShown, found_in}
 use Rattle.pid_tables.specs.Rows.Schema.{schema_of}
 use Rattle.pid_tables.specs.Rows.Shows.{ShowsIn}
-use Rattle.pid_tables.specs.declared.rows.version.Version.TheVariants.{One}
+use Rattle.pid_tables.specs.declared.rows.schema_version.Version.TheVariants.{One}
 use Rattle.pid_tables.specs.declared.migration.Step.{Step}
 use Rattle.pid_tables.specs.Clauses.{IsOpened, ShowsOrBlank}
 use Rattle.pid_tables.specs.Creation.{ListsNoTable}

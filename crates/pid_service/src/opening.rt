@@ -1,6 +1,6 @@
 //! Opens a registry, and moves a database to the schema of today.
 ghost use Rattle.std.specs.Prelude.{◌≡◌, ◌↔◌, true, false, Some, Err};
-ghost use Rattle.pid_tables.specs.declared.rows.version.Version.TheVariants.{Two};
+ghost use Rattle.pid_tables.specs.declared.rows.schema_version.Version.TheVariants.{Two};
 ghost use Rattle.pid_service.specs.Opening.{
   ExplainsOpening,
   MovesAtOnce,

@@ -19,7 +19,7 @@ use Rattle.sqlite_rules.specs.declared.error.Rowids.TheVariants.{Chosen}
 use Rattle.pid_moderation.specs.declared.facts.State.TheVariants.{Pending}
 use Rattle.pid_moderation.specs.Views.{Views}
 use Rattle.pid_tables.specs.Rows.Schema.{pid_schema, no_schema, meta, account, item, submission, remark, receipt, item_since}
-use Rattle.pid_tables.specs.declared.rows.version.Version.TheVariants.{Two}
+use Rattle.pid_tables.specs.declared.rows.schema_version.Version.TheVariants.{Two}
 use Rattle.pid_tables.specs.Rows.PairRows.{Map, RowsAre}
 use Rattle.pid_tables.specs.Rows.TableRows.{number, meta_row}
 use Rattle.sqlite.specs.Order.{Row}

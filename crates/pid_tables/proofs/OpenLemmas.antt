@@ -6,7 +6,7 @@ use Rattle.sqlite.specs.State.{State, Opens, IsLive}
 use Rattle.sqlite.specs.Tree.{Trees}
 use Rattle.sqlite_catalog.proofs.ReadLemmas.{lists_once}
 use Rattle.pid_moderation.specs.Views.{Views}
-use Rattle.pid_tables.specs.declared.rows.version.Version.{Version}
+use Rattle.pid_tables.specs.declared.rows.schema_version.Version.{Version}
 use Rattle.pid_tables.specs.Rows.Leaves.{as_found, found_in, AtRest, RestsIn}
 use Rattle.pid_tables.specs.Rows.Schema.{no_schema, pid_schema, schema_of}
 use Rattle.pid_tables.specs.Rows.Shows.{Shows, ShowsIn}

@@ -3,8 +3,8 @@ use Rattle.std.specs.Prelude.{◌≡◌, ℕ, codes, Result, IfErr, IfOk, IsTrue
 use Rattle.sqlite.specs.State.{State, HasCleanDisk}
 use Rattle.pid_moderation.specs.Views.{Views}
 use Rattle.pid_tables.specs.declared.rows.fault.TableFault.{TableFault}
-use Rattle.pid_tables.specs.declared.rows.version.Version.{Version}
-use Rattle.pid_tables.specs.declared.rows.version.Version.TheVariants.{One}
+use Rattle.pid_tables.specs.declared.rows.schema_version.Version.{Version}
+use Rattle.pid_tables.specs.declared.rows.schema_version.Version.TheVariants.{One}
 use Rattle.pid_tables.specs.Rows.Faults.{IsMemoryOrStore, IsNotNewerSchema}
 use Rattle.pid_tables.specs.Rows.LabelRows.{ExplainsNumber, HasLabel}
 use Rattle.pid_tables.specs.Rows.LabelRows.{IsDamageOf, ShowsNoNumber, ShowsNumber}

@@ -3,7 +3,7 @@ use Rattle.std.specs.Prelude.{◌≡◌, ◌⊎◌}
 use Rattle.sqlite.specs.State.{State}
 use Rattle.pid_moderation.specs.History.{History, new_history}
 use Rattle.pid_moderation.specs.Views.{views_of}
-use Rattle.pid_tables.specs.declared.rows.version.Version.TheVariants.{One}
+use Rattle.pid_tables.specs.declared.rows.schema_version.Version.TheVariants.{One}
 use Rattle.pid_tables.specs.Rows.Leaves.{AtRest, RestsIn}
 use Rattle.pid_tables.specs.Creation.{RestsBare}
 

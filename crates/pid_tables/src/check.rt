@@ -10,11 +10,11 @@ mod numbers;
 mod read;
 mod receipt;
 mod remark;
-mod shape;
+mod schema;
 mod since;
 mod submission;
 mod tables;
 mod value;
 mod words;
 
-pub use shape::has_some_table;
+pub use schema::has_some_table;

@@ -19,7 +19,7 @@ ghost use Rattle.pid_tables.specs.Rows.Clauses.{
   seen,
 };
 ghost use Rattle.pid_tables.specs.Rows.Faults.{IsMemoryOrStore, IsNotNewerSchema};
-ghost use Rattle.pid_tables.specs.declared.rows.version.Version.TheVariants.{One};
+ghost use Rattle.pid_tables.specs.declared.rows.schema_version.Version.TheVariants.{One};
 ghost use Rattle.pid_tables.specs.Check.Checking.{Explains};
 ghost use Rattle.pid_tables.specs.Clauses.{
   MigratesJudged,
@@ -35,9 +35,9 @@ ghost use Rattle.pid_tables.specs.Steps.Found.{BringsFound};
 use crate::batch::commit;
 use crate::check::has_some_table;
 use crate::creation::create;
-use crate::moving::move_tables;
 use crate::rows::meta::schema_number;
 use crate::rows::{LATEST, TableFault, Version};
+use crate::schema_1_to_2::move_tables;
 use crate::tables::Tables;
 use sqlite::{Alter, Connection};
 use std::alloc::Global;

@@ -12,9 +12,9 @@ pub mod meta;
 pub mod receipt;
 pub mod remark;
 pub mod run;
+mod schema_version;
 pub mod submission;
 pub mod value;
-mod version;
 
 pub use fault::TableFault;
-pub use version::{LATEST, Version};
+pub use schema_version::{LATEST, Version};

@@ -7,9 +7,9 @@ use Rattle.clap.specs.declared.builder.command.Command.{Command}
 use Rattle.clap.specs.declared.builder.command.Command.TheViews.{out-Command}
 use Rattle.pid_cli_args.specs.Commands.{Connections, Needed, Operand, Parameter, Port, Spare}
 use Rattle.pid_cli_args.specs.Commands.{with_parameter}
-use Rattle.pid_cli_args.specs.declared.command_tables.Argument.{Argument}
-use Rattle.pid_cli_args.specs.declared.command_tables.Argument.TheVariants as arguments
-use Rattle.pid_cli_args.specs.declared.command_tables.Row.{Row}
+use Rattle.pid_cli_args.specs.declared.command_building.Argument.{Argument}
+use Rattle.pid_cli_args.specs.declared.command_building.Argument.TheVariants as arguments
+use Rattle.pid_cli_args.specs.declared.command_building.Row.{Row}
 
 -- an argument, and a subcommand
 abbrev pub parameter_of : Argument → Parameter

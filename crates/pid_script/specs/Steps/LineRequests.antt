@@ -4,9 +4,9 @@ use Rattle.std.specs.Option.{option_map}
 use Rattle.std.specs.Borrow.{Bor}
 use Rattle.pid_script.specs.ScriptLines as asks
 use Rattle.pid_script.specs.ScriptLines.{Ask}
-use Rattle.pid_script.specs.declared.line.LineRequest.{LineRequest}
-use Rattle.pid_script.specs.declared.line.LineRequest.TheVariants.{Nothing, Command, Export, Read}
-use Rattle.pid_script.specs.declared.line.LineRequest.TheVariants.{Lookup, Unclear, TooLong}
+use Rattle.pid_script.specs.declared.script_line.LineRequest.{LineRequest}
+use Rattle.pid_script.specs.declared.script_line.LineRequest.TheVariants.{Nothing, Command, Export, Read}
+use Rattle.pid_script.specs.declared.script_line.LineRequest.TheVariants.{Lookup, Unclear, TooLong}
 
 -- the same as an ask of scripts
 abbrev pub ask_known : LineRequest → Ask

@@ -11,7 +11,7 @@ use Rattle.pid_moderation.specs.Ranks.{has_rank, rank_number}
 use Rattle.pid_moderation.specs.Sound.{IsSound}
 use Rattle.pid_moderation.specs.Views.{rank_of, views_of}
 use Rattle.pid_tables.specs.Rows.Shows.{ShowsIn}
-use Rattle.pid_tables.specs.declared.rows.version.Version.{Version}
+use Rattle.pid_tables.specs.declared.rows.schema_version.Version.{Version}
 use Rattle.pid_tables.specs.Rows.TableRows.{account_row}
 use Rattle.pid_tables.specs.Check.Conditions.{columns, rows_in, HasAccount, IsAccountRow, AreAccounts}
 use Rattle.pid_tables.proofs.OfRows.Lengths.{some_there, mapped, unmapped}

@@ -1,13 +1,13 @@
 -- The query of each table is refused in no way on tables of the schema.
 use Rattle.std.proofs.Common.{List, [], ◌∷◌, codes, refl}
 use Rattle.pid_tables.specs.Rows.Steps.Queries.{IsQuery}
-use Rattle.pid_tables.specs.declared.rows.version.Version.TheVariants.{Two}
+use Rattle.pid_tables.specs.declared.rows.schema_version.Version.TheVariants.{Two}
 use Rattle.pid_tables.specs.Rows.Schema.{schema_of, item_since}
 use Rattle.sqlite.specs.Table.{Table as Stored}
 use Rattle.sqlite_schema.specs.declared.schema.Index.{Index}
 use Rattle.pid_tables.proofs.OfRows.QueryTexts.{by_key}
-use Rattle.pid_tables.specs.declared.check.shape.Table.{Table}
-use Rattle.pid_tables.specs.declared.check.shape.Table.TheVariants.{Meta, Account, Item, Submission, Remark, Receipt, Since}
+use Rattle.pid_tables.specs.declared.check.schema.Table.{Table}
+use Rattle.pid_tables.specs.declared.check.schema.Table.TheVariants.{Meta, Account, Item, Submission, Remark, Receipt, Since}
 use Rattle.pid_tables.specs.Check.Queries.{query_of}
 use Rattle.pid_tables.proofs.OfCheck.WholeTexts.{two_columns, submission_columns, submission_names, remark_columns, receipt_columns, meta_is, account_is, item_is, submission_is, remark_is, receipt_is, since_is, meta_alone, account_alone, item_alone, submission_alone, remark_alone, receipt_alone, since_alone}
 

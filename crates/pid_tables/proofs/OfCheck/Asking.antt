@@ -28,8 +28,8 @@ use Rattle.pid_tables.proofs.OfRows.CauseLemmas.{not_run_caused, caused_later}
 use Rattle.pid_tables.proofs.OfRows.OnlyReading.{keeps_left, rests_on, reads_then}
 use Rattle.pid_tables.proofs.OfRows.Lengths.{mapped, unmapped}
 use Rattle.pid_tables.proofs.OfRows.ReadLemmas.{not_run}
-use Rattle.pid_tables.specs.declared.check.shape.Table.{Table}
-use Rattle.pid_tables.specs.declared.check.shape.Table.TheVariants.{Meta, Account, Item, Submission, Remark, Receipt, Since}
+use Rattle.pid_tables.specs.declared.check.schema.Table.{Table}
+use Rattle.pid_tables.specs.declared.check.schema.Table.TheVariants.{Meta, Account, Item, Submission, Remark, Receipt, Since}
 use Rattle.pid_tables.specs.Check.Queries.{query_of}
 use Rattle.pid_tables.specs.Check.Shapes.{CanBeAsked, HasEachTable, HasSomeTable}
 use Rattle.pid_tables.proofs.OfCheck.Each.{same_there, one_more, some_member, some_place}

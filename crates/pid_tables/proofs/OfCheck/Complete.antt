@@ -11,11 +11,11 @@ use Rattle.sqlite_resolve.specs.declared.error.CompileError.{CompileError}
 use Rattle.sqlite_resolve.specs.declared.error.CompileError.TheVariants.{NoSuchTable}
 use Rattle.sqlite_tied.specs.Compute.{everything}
 use Rattle.sqlite_rules.specs.Lists.{Has}
-use Rattle.pid_tables.specs.declared.rows.version.Version.{Version}
-use Rattle.pid_tables.specs.declared.rows.version.Version.TheVariants.{One, Two}
+use Rattle.pid_tables.specs.declared.rows.schema_version.Version.{Version}
+use Rattle.pid_tables.specs.declared.rows.schema_version.Version.TheVariants.{One, Two}
 use Rattle.pid_tables.specs.Rows.Schema.{schema_of, no_schema, item_since, more_tables}
-use Rattle.pid_tables.specs.declared.check.shape.Table.{Table}
-use Rattle.pid_tables.specs.declared.check.shape.Table.TheVariants.{Meta, Account, Item, Submission, Remark, Receipt, Since}
+use Rattle.pid_tables.specs.declared.check.schema.Table.{Table}
+use Rattle.pid_tables.specs.declared.check.schema.Table.TheVariants.{Meta, Account, Item, Submission, Remark, Receipt, Since}
 use Rattle.pid_tables.specs.Check.Queries.{query_of, any_since}
 use Rattle.pid_tables.specs.Check.Shapes.{table_texts, CanBeAsked, HasEachTable, HasSomeTable, HasNoTable, HasTables, IsMadeFirst}
 use Rattle.pid_tables.proofs.OfCheck.Asking.{unasked}

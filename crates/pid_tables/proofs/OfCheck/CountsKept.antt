@@ -19,8 +19,8 @@ use Rattle.pid_moderation.specs.Items.{Items, name_at}
 use Rattle.pid_moderation.specs.Views.{Views, Submitted, submission_at}
 use Rattle.pid_tables.proofs.OfRows.Keys.{numbers_decided}
 use Rattle.pid_tables.proofs.OfRows.SetLemmas.{tied}
-use Rattle.pid_tables.specs.declared.rows.version.Version.{Version}
-use Rattle.pid_tables.specs.declared.rows.version.Version.TheVariants.{One, Two}
+use Rattle.pid_tables.specs.declared.rows.schema_version.Version.{Version}
+use Rattle.pid_tables.specs.declared.rows.schema_version.Version.TheVariants.{One, Two}
 use Rattle.pid_tables.specs.Rows.Schema.{version_number}
 use Rattle.pid_tables.specs.Rows.Shows.{ShowsIn, counts_of, labels_of, more_labels as more_rows}
 use Rattle.pid_tables.specs.Rows.TableRows.{meta_row, item_row, submission_row, number}

@@ -17,7 +17,7 @@ use Rattle.pid_moderation.specs.Views.{items_of, views_of}
 use Rattle.pid_moderation.specs.Writes.{tree_of}
 use Rattle.pid_moderation.specs.Laws.{ItemsAreSorted}
 use Rattle.pid_tables.specs.Rows.Shows.{ShowsIn}
-use Rattle.pid_tables.specs.declared.rows.version.Version.{Version}
+use Rattle.pid_tables.specs.declared.rows.schema_version.Version.{Version}
 use Rattle.pid_tables.specs.Rows.TableRows.{item_row}
 use Rattle.pid_tables.specs.Check.Conditions.{columns, rows_in, HasItemRow, IsItemRow, AreItems}
 use Rattle.pid_tables.proofs.OfRows.Lengths.{some_there, mapped, unmapped}

@@ -6,15 +6,15 @@ use Rattle.pid_moderation.specs.CheckTables.{most_revision}
 use Rattle.pid_tables.specs.Rows.Faults.{IsMemoryOrStore}
 use Rattle.pid_tables.specs.declared.rows.fault.TableFault.{TableFault}
 use Rattle.pid_tables.specs.declared.rows.fault.TableFault.TheVariants.{Memory, Store, NewerSchema, Damaged}
-use Rattle.pid_tables.specs.declared.rows.version.Version.{Version}
-use Rattle.pid_tables.specs.declared.rows.version.Version.TheVariants.{One, Two}
+use Rattle.pid_tables.specs.declared.rows.schema_version.Version.{Version}
+use Rattle.pid_tables.specs.declared.rows.schema_version.Version.TheVariants.{One, Two}
 use Rattle.pid_tables.specs.Check.Checking.{ShowsRegistry, ShowsDamage}
 use Rattle.pid_tables.specs.Check.Conditions.{Rows, AreLabels, AreSinces, AreNumbered, AreCounted}
 use Rattle.pid_tables.specs.Check.Steps.Keeping.{AreDated, ShowsJudged}
 use Rattle.pid_tables.specs.Check.Queries.{query_of}
 use Rattle.pid_tables.specs.Check.Steps.Reading.{TellsDamage}
 use Rattle.pid_tables.specs.Check.Shapes.{ShowsRows}
-use Rattle.pid_tables.specs.declared.check.shape.Table.TheVariants.{Meta}
+use Rattle.pid_tables.specs.declared.check.schema.Table.TheVariants.{Meta}
 use Rattle.pid_tables.specs.declared.check.tables.Judged.{Judged}
 
 pub not_both : (b : Bool) → not b ≡ true → b ≡ true → ⊥

@@ -2,8 +2,8 @@
 use Rattle.std.proofs.Common.{◌≡◌, ◌&&◌, ℕ, Bool, List, [], sym, subst}
 use Rattle.sqlite.specs.Effect.{Database}
 use Rattle.sqlite.specs.Order.{Row}
-use Rattle.pid_tables.specs.declared.rows.version.Version.{Version}
-use Rattle.pid_tables.specs.declared.rows.version.Version.TheVariants.{One, Two}
+use Rattle.pid_tables.specs.declared.rows.schema_version.Version.{Version}
+use Rattle.pid_tables.specs.declared.rows.schema_version.Version.TheVariants.{One, Two}
 use Rattle.pid_tables.specs.Check.Conditions.{AreRemarks}
 use Rattle.pid_tables.specs.Check.Steps.Keeping.{IsPartJudged, KeepsAccounts, KeepsItems, KeepsSubmissions, GoWith, AreOfAuthors, ShowsNamed, ShowsSubmitted, ShowsJudged}
 use Rattle.pid_tables.specs.Check.Queries.{query_of}
@@ -13,8 +13,8 @@ use Rattle.pid_tables.specs.declared.check.account.Accounts.{Accounts}
 use Rattle.pid_tables.specs.declared.check.item.Items.{Items}
 use Rattle.pid_tables.specs.declared.check.submission.Submissions.{Submissions}
 use Rattle.pid_tables.specs.declared.check.tables.Part.{Part}
-use Rattle.pid_tables.specs.declared.check.shape.Table.{Table}
-use Rattle.pid_tables.specs.declared.check.shape.Table.TheVariants.{Account, Item, Submission, Remark, Receipt, Since}
+use Rattle.pid_tables.specs.declared.check.schema.Table.{Table}
+use Rattle.pid_tables.specs.declared.check.schema.Table.TheVariants.{Account, Item, Submission, Remark, Receipt, Since}
 
 -- the query of a table answers rows of which this is kept
 abbrev pub Has : Database → Table → (List Row → Type 0) → Type 0

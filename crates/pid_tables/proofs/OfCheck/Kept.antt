@@ -7,7 +7,7 @@ use Rattle.pid_moderation.specs.Laws.{ItemsAreSorted}
 use Rattle.pid_moderation.specs.Sound.{IsSound}
 use Rattle.pid_moderation.specs.Views.{revision_of, since_of, views_of}
 use Rattle.pid_tables.specs.Rows.Shows.{ShowsIn}
-use Rattle.pid_tables.specs.declared.rows.version.Version.{Version}
+use Rattle.pid_tables.specs.declared.rows.schema_version.Version.{Version}
 use Rattle.pid_tables.specs.Check.Checking.{IsRegistry}
 use Rattle.pid_tables.specs.Check.Shapes.{HasTables}
 use Rattle.pid_tables.proofs.OfCheck.Complete.{has_tables}

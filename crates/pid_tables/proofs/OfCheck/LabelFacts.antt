@@ -8,8 +8,8 @@ use Rattle.sqlite.specs.Order.{Row, column}
 use Rattle.sqlite_rules.specs.Lists.{Has}
 use Rattle.pid_tables.specs.Rows.TableRows.{number}
 use Rattle.pid_tables.specs.Rows.Schema.{version_number}
-use Rattle.pid_tables.specs.declared.rows.version.Version.{Version}
-use Rattle.pid_tables.specs.declared.rows.version.Version.TheVariants.{One, Two}
+use Rattle.pid_tables.specs.declared.rows.schema_version.Version.{Version}
+use Rattle.pid_tables.specs.declared.rows.schema_version.Version.TheVariants.{One, Two}
 use Rattle.pid_tables.specs.Check.Conditions.{labels, label_row, AreLabels}
 use Rattle.pid_tables.specs.Check.Steps.Labels.{HasLabelRow, IsLabel, IsLater, IsToldOfLabel, IsToldOfSchema, TakesLabels}
 use Rattle.pid_tables.specs.declared.check.meta.Labels.{Labels}

@@ -20,8 +20,8 @@ use Rattle.sqlite_resolve.specs.Lowering.{Checked, and_then}
 use Rattle.sqlite_syntax.specs.declared.statement.Parsed.{Parsed}
 use Rattle.sqlite_tied.specs.Compute.{everything}
 use Rattle.pid_tables.specs.Check.Queries.{query_of}
-use Rattle.pid_tables.specs.declared.check.shape.Table.{Table}
-use Rattle.pid_tables.specs.declared.check.shape.Table.TheVariants.{Meta, Account, Item, Submission, Remark, Receipt, Since}
+use Rattle.pid_tables.specs.declared.check.schema.Table.{Table}
+use Rattle.pid_tables.specs.declared.check.schema.Table.TheVariants.{Meta, Account, Item, Submission, Remark, Receipt, Since}
 use Rattle.pid_tables.specs.Check.Shapes.{CanBeAsked, ShowsRows, ShowsLater}
 use Rattle.pid_tables.specs.Check.Steps.Labels.{IsLater}
 

@@ -9,8 +9,8 @@ use Rattle.pid_moderation.specs.declared.facts.State.{State}
 use Rattle.pid_moderation.specs.declared.facts.State.TheVariants.{Pending, Approved, Rejected, Withdrawn}
 use Rattle.pid_moderation.specs.declared.command.Reply.{Reply}
 use Rattle.pid_moderation.specs.declared.command.Reply.TheVariants.{Done, Numbered, Counts}
-use Rattle.pid_tables.specs.declared.rows.version.Version.{Version}
-use Rattle.pid_tables.specs.declared.rows.version.Version.TheVariants.{One, Two}
+use Rattle.pid_tables.specs.declared.rows.schema_version.Version.{Version}
+use Rattle.pid_tables.specs.declared.rows.schema_version.Version.TheVariants.{One, Two}
 use Rattle.pid_tables.specs.Check.Conditions.{Rows, HasValue, IsItemRow, AreAccounts, AreItems, HasRemark, AreRemarks, AreLabels, IsDecided, IsSubmissionRow, AreSubmissions, IsOwn, AreReceipts, AreSinces, AreNumbered, AreOfRegistry}
 
 pub value_moved : (xs ys : List Row) → IsPermutation xs ys → (at : ℕ) (v : Value) → HasValue xs at v → HasValue ys at v

@@ -11,7 +11,7 @@ use Rattle.pid_moderation.specs.History.{History}
 use Rattle.pid_moderation.specs.Sound.{IsSound, IsSubmissionBy, IsOwnReply}
 use Rattle.pid_moderation.specs.Views.{Submitted, submits_of, submission_at, state_of, views_of}
 use Rattle.pid_tables.specs.Rows.Shows.{ShowsIn}
-use Rattle.pid_tables.specs.declared.rows.version.Version.{Version}
+use Rattle.pid_tables.specs.declared.rows.schema_version.Version.{Version}
 use Rattle.pid_tables.specs.Rows.TableRows.{submission_row}
 use Rattle.pid_moderation.specs.Submissions.{Standing}
 use Rattle.pid_tables.proofs.OfRows.Lengths.{mapped, unmapped}

@@ -9,7 +9,7 @@ use Rattle.pid_moderation.specs.History.{History}
 use Rattle.pid_moderation.specs.Sound.{IsSound, IsGoodRemark, AreGoodRemarks, IsRemarkedWell}
 use Rattle.pid_moderation.specs.Views.{Submitted, Remark, submits_of, submission_at, remarks_of, views_of}
 use Rattle.pid_tables.specs.Rows.Shows.{ShowsIn, counted_from_one}
-use Rattle.pid_tables.specs.declared.rows.version.Version.{Version}
+use Rattle.pid_tables.specs.declared.rows.schema_version.Version.{Version}
 use Rattle.pid_tables.specs.Rows.TableRows.{remark_row}
 use Rattle.pid_tables.proofs.OfRows.Lengths.{mapped, unmapped}
 use Rattle.pid_tables.specs.Check.Conditions.{columns, rows_in, IsRemarkRow, AreRemarks}

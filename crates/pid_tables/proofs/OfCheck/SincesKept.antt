@@ -17,8 +17,8 @@ use Rattle.pid_moderation.specs.Views.{items_of, revision_of, since_of, views_of
 use Rattle.pid_moderation.specs.Writes.{tree_of}
 use Rattle.pid_tables.specs.Rows.Shows.{ShowsIn}
 use Rattle.pid_tables.specs.Rows.TableRows.{since_row}
-use Rattle.pid_tables.specs.declared.rows.version.Version.{Version}
-use Rattle.pid_tables.specs.declared.rows.version.Version.TheVariants.{One, Two}
+use Rattle.pid_tables.specs.declared.rows.schema_version.Version.{Version}
+use Rattle.pid_tables.specs.declared.rows.schema_version.Version.TheVariants.{One, Two}
 use Rattle.pid_tables.proofs.OfRows.Lengths.{mapped, unmapped}
 use Rattle.pid_tables.specs.Check.Conditions.{columns, rows_in, HasItemRow, IsSinceRow, AreSinces, AreNumbered}
 use Rattle.pid_tables.proofs.OfCheck.ItemFacts.{texts_same}

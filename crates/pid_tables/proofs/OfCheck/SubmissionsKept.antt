@@ -14,7 +14,7 @@ use Rattle.pid_moderation.specs.History.{History}
 use Rattle.pid_moderation.specs.Sound.{IsSound, IsGoodSubmission, AreGoodSubmissions, IsDecidedByOther, IsDecidedWell}
 use Rattle.pid_moderation.specs.Views.{Submitted, submits_of, submission_at, state_of, views_of}
 use Rattle.pid_tables.specs.Rows.Shows.{ShowsIn}
-use Rattle.pid_tables.specs.declared.rows.version.Version.{Version}
+use Rattle.pid_tables.specs.declared.rows.schema_version.Version.{Version}
 use Rattle.pid_tables.specs.Rows.TableRows.{submission_row, number}
 use Rattle.pid_moderation.specs.Submissions.{Standing}
 use Rattle.pid_tables.specs.Check.Conditions.{columns, rows_in, HasValue, IsDecided, IsSubmissionRow, AreSubmissions}

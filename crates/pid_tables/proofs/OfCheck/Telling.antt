@@ -6,14 +6,14 @@ use Rattle.sqlite.specs.Effect.{Database}
 use Rattle.sqlite.specs.Order.{Row}
 use Rattle.sqlite.specs.Schema.{Schema}
 use Rattle.sqlite_rules.specs.Lists.{Has}
-use Rattle.pid_tables.specs.declared.rows.version.Version.{Version}
-use Rattle.pid_tables.specs.declared.rows.version.Version.TheVariants.{One, Two}
+use Rattle.pid_tables.specs.declared.rows.schema_version.Version.{Version}
+use Rattle.pid_tables.specs.declared.rows.schema_version.Version.TheVariants.{One, Two}
 use Rattle.pid_tables.specs.Rows.Schema.{more_tables}
 use Rattle.pid_tables.specs.declared.rows.fault.TableFault.{TableFault}
 use Rattle.pid_tables.specs.declared.rows.fault.TableFault.TheVariants.{Memory, Store, NewerSchema, Damaged}
 use Rattle.pid_tables.specs.Rows.Faults.{IsMemoryOrStore}
 use Rattle.pid_tables.proofs.OfRows.TurnLemmas.{permuted}
-use Rattle.pid_tables.specs.declared.check.shape.Table.TheVariants.{Meta, Since}
+use Rattle.pid_tables.specs.declared.check.schema.Table.TheVariants.{Meta, Since}
 use Rattle.pid_tables.specs.Check.Checking.{Explains, FindsVersion, IsRegistry, ShowsDamage, ShowsRegistry}
 use Rattle.pid_tables.specs.Check.Conditions.{Rows, rows_in, labels, label_row, IsNewer, AreOfRegistry}
 use Rattle.pid_tables.specs.Check.Steps.Lacking.{ExplainsLater}

@@ -19,7 +19,7 @@ use Rattle.pid_tables.proofs.OfRows.OnlyReading.{Keeps, keeps_same, keeps_back, 
 use Rattle.pid_tables.proofs.OfRows.ReadLemmas.{fails_to_query}
 use Rattle.pid_tables.specs.Check.Queries.{query_of}
 use Rattle.pid_tables.specs.Check.Shapes.{CanBeAsked, ShowsRows}
-use Rattle.pid_tables.specs.declared.check.shape.Table.{Table}
+use Rattle.pid_tables.specs.declared.check.schema.Table.{Table}
 use Rattle.pid_tables.proofs.OfCheck.Labels.{asked_plain, commits_none, returns_none, rows_shown}
 
 -- the keeper took the rows that were given

@@ -33,7 +33,7 @@ use Rattle.pid_tables.specs.Rows.Steps.Queries.{IsQuery}
 use Rattle.pid_tables.specs.Rows.Schema.{schema_of, account}
 use Rattle.pid_tables.specs.Rows.Shows.{Counts, Numbers, ShowsKeeping}
 use Rattle.pid_tables.specs.Rows.TableRows.{account_row}
-use Rattle.pid_tables.specs.declared.rows.version.Version.{Version}
+use Rattle.pid_tables.specs.declared.rows.schema_version.Version.{Version}
 use Rattle.pid_tables.proofs.OfRows.Lengths.{some_there}
 use Rattle.pid_tables.proofs.OfRows.Lengths as lengths
 use Rattle.pid_tables.proofs.OfRows.MapLemmas.{none_over}

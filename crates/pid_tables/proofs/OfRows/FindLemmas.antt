@@ -8,7 +8,7 @@ use Rattle.sqlite.specs.Held.{Held, state}
 use Rattle.sqlite_trees.specs.declared.store.Store.{Ghosts}
 use Rattle.pid_moderation.specs.Items.{name_at}
 use Rattle.pid_moderation.specs.Views.{Views}
-use Rattle.pid_tables.specs.declared.rows.version.Version.{Version}
+use Rattle.pid_tables.specs.declared.rows.schema_version.Version.{Version}
 use Rattle.pid_tables.specs.Rows.Schema.{schema_of, meta, account, item, submission, receipt}
 use Rattle.pid_tables.specs.Rows.TableRows.{number, meta_row, account_row, item_row, submission_row, receipt_row}
 use Rattle.pid_tables.specs.Rows.Answers.{standing_row}

@@ -29,7 +29,7 @@ use Rattle.pid_tables.specs.Rows.TableRows.{number, remark_row}
 use Rattle.pid_tables.proofs.OfRows.MapLemmas.{none_over}
 use Rattle.pid_tables.proofs.OfRows.Keys.{pos_same}
 use Rattle.pid_tables.proofs.OfRows.Select.{passing, shown, integers_equal, integer_equal}
-use Rattle.pid_tables.specs.declared.rows.version.Version.{Version}
+use Rattle.pid_tables.specs.declared.rows.schema_version.Version.{Version}
 use Rattle.pid_tables.specs.Rows.Schema.{schema_of}
 use Rattle.pid_tables.proofs.OfRows.Statements.{program, first_one, IsAlone, command_alone, plain_alone}
 use Rattle.pid_tables.proofs.OfRows.KeyTexts.{by_first}

@@ -14,7 +14,7 @@ use Rattle.sqlite.proofs.Callers.{runs_as}
 use Rattle.sqlite_rules.specs.declared.error.Rowids.TheVariants.{Chosen}
 use Rattle.pid_moderation.specs.Items.{name_at}
 use Rattle.pid_moderation.specs.Views.{Views}
-use Rattle.pid_tables.specs.declared.rows.version.Version.TheVariants.{One, Two}
+use Rattle.pid_tables.specs.declared.rows.schema_version.Version.TheVariants.{One, Two}
 use Rattle.pid_tables.specs.Rows.Steps.Moving.{IsBetween}
 use Rattle.pid_tables.specs.Rows.PairRows.{RowsAre}
 use Rattle.pid_tables.specs.Rows.Steps.Queries.{IsWriteAs}

@@ -18,7 +18,7 @@ use Rattle.sqlite_rules.specs.Lists.{Has}
 use Rattle.sqlite_rules.proofs.ListLemmas.{all_has}
 use Rattle.sqlite_schema.specs.Rules.{agree, clashes, differ, equal, passes, Obeys}
 use Rattle.sqlite_schema.specs.declared.schema.Constraint.TheVariants.{Unique}
-use Rattle.pid_tables.specs.declared.rows.version.Version.{Version}
+use Rattle.pid_tables.specs.declared.rows.schema_version.Version.{Version}
 use Rattle.pid_tables.specs.Rows.Schema.{schema_of, item}
 use Rattle.pid_tables.proofs.OfRows.Select.{said, text_equal}
 use Rattle.pid_tables.proofs.OfRows.Lengths.{IsDistinct}

@@ -15,7 +15,7 @@ use Rattle.pid_tables.specs.Rows.Steps.Turns.{GoesOn}
 use Rattle.pid_tables.specs.Rows.Shows.{ShowsIn, Shows}
 use Rattle.pid_tables.proofs.OfRows.GoingLemmas.{earlier}
 use Rattle.pid_tables.proofs.OfRows.LeaveLemmas.{leaves_on, shown_on}
-use Rattle.pid_tables.specs.declared.rows.version.Version.{Version}
+use Rattle.pid_tables.specs.declared.rows.schema_version.Version.{Version}
 use Rattle.pid_moderation.specs.Views.{Views}
 
 -- while it is open, it was open, sees what it saw or what was committed, and has that committed

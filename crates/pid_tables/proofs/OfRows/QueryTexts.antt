@@ -18,7 +18,7 @@ use Rattle.sqlite.specs.Schema.{Schema}
 use Rattle.pid_tables.specs.Rows.TableRows.{number}
 use Rattle.pid_tables.specs.Rows.Steps.Queries.{IsSafeSelect, IsOneStatement, IsQueryAs, IsQuery}
 use Rattle.sqlite_typing.specs.Types.{accepts_program}
-use Rattle.pid_tables.specs.declared.rows.version.Version.{Version}
+use Rattle.pid_tables.specs.declared.rows.schema_version.Version.{Version}
 use Rattle.pid_tables.specs.Rows.Schema.{schema_of}
 use Rattle.pid_tables.proofs.OfRows.Statements.{listing, whole, simple, program, IsSelect, SelectsAlone, Parts, parts}
 use Rattle.pid_tables.proofs.OfRows.StatementTexts.{select_meta, select_account, select_item, select_submission, select_receipt}

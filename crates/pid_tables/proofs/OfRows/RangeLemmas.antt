@@ -27,7 +27,7 @@ use Rattle.sqlite_rules.proofs.ListLemmas.{has_filtered, has_kept}
 use Rattle.pid_ident.specs.Trees.{text_cmp}
 use Rattle.pid_moderation.specs.Items.{Items, name_at}
 use Rattle.pid_moderation.specs.Views.{Views}
-use Rattle.pid_tables.specs.declared.rows.version.Version.{Version}
+use Rattle.pid_tables.specs.declared.rows.schema_version.Version.{Version}
 use Rattle.pid_tables.specs.Rows.Steps.Answers.{IsFirstWithin}
 use Rattle.pid_tables.specs.Rows.Schema.{schema_of}
 use Rattle.pid_tables.specs.Rows.TableRows.{item_row}

@@ -15,7 +15,7 @@ use Rattle.pid_tables.specs.declared.rows.fault.TableFault.{TableFault}
 use Rattle.pid_tables.specs.Rows.Answers.{standing_row}
 use Rattle.pid_tables.specs.Rows.Steps.Answers.{value_row, name_row, rank_row, reply_row}
 use Rattle.pid_tables.specs.Rows.Causes.{IsCaused, IsReadable, IsReadableSubmission, IsReadableState}
-use Rattle.pid_tables.specs.declared.rows.version.Version.TheVariants.{One, Two}
+use Rattle.pid_tables.specs.declared.rows.schema_version.Version.TheVariants.{One, Two}
 use Rattle.pid_tables.specs.Rows.Shows.{Counts, labels_of, more_labels, counts_of}
 use Rattle.pid_tables.specs.Rows.Steps.Shows.{meta_of}
 use Rattle.pid_moderation.specs.Submissions.{standing_in, Standing}

@@ -20,8 +20,8 @@ use Rattle.pid_moderation.specs.declared.facts.State.TheVariants.{Pending, Appro
 use Rattle.pid_moderation.specs.Items.{Items, name_at}
 use Rattle.pid_moderation.specs.Views.{Views, Submitted, Remark, submission_at, is_named_anew}
 use Rattle.pid_tables.specs.Rows.PairRows.{Map}
-use Rattle.pid_tables.specs.declared.rows.version.Version.{Version}
-use Rattle.pid_tables.specs.declared.rows.version.Version.TheVariants.{One, Two}
+use Rattle.pid_tables.specs.declared.rows.schema_version.Version.{Version}
+use Rattle.pid_tables.specs.declared.rows.schema_version.Version.TheVariants.{One, Two}
 use Rattle.pid_tables.specs.Rows.Schema.{version_number}
 use Rattle.pid_moderation.specs.Submissions.{Standing, decider_of, standing_in}
 use Rattle.pid_tables.specs.Rows.Shows.{Counts, labels_of, more_labels, counted_from_one, remark_in, receipt_in, since_in, numbers_in}

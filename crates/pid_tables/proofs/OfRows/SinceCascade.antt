@@ -10,7 +10,7 @@ use Rattle.sqlite_schema.specs.Names.{same_name}
 use Rattle.sqlite_rules.specs.declared.error.Rowids.TheVariants.{Given}
 use Rattle.sqlite_rules.specs.declared.action.Deed.TheVariants.{Delete}
 use Rattle.sqlite_rules.specs.Action.{Work, pairs, loses, works, AreChildren, Leads, ActsOn, Acts, Writes}
-use Rattle.pid_tables.specs.declared.rows.version.Version.TheVariants.{Two}
+use Rattle.pid_tables.specs.declared.rows.schema_version.Version.TheVariants.{Two}
 use Rattle.pid_tables.specs.Rows.Schema.{schema_of, item, item_since, to_item}
 
 -- what is to be done for item_since where these items go

@@ -28,7 +28,7 @@ use Rattle.pid_tables.proofs.OfRows.TurnLemmas.{hits, has_mapped, permuted, turn
 use Rattle.pid_tables.proofs.OfRows.WriteLemmas.{cast_int, cast_null}
 use Rattle.pid_tables.proofs.OfRows.Keys.{since_plain}
 use Rattle.pid_tables.proofs.OfRows.Statements.{program, simple}
-use Rattle.pid_tables.specs.declared.rows.version.Version.TheVariants.{Two}
+use Rattle.pid_tables.specs.declared.rows.schema_version.Version.TheVariants.{Two}
 use Rattle.pid_tables.specs.Rows.Schema.{schema_of, item_since}
 use Rattle.pid_tables.proofs.OfRows.StatementTexts.{fill_since}
 use Rattle.pid_tables.proofs.OfRows.SinceTexts.{fill_is, fill_plain, copied, copying}

@@ -24,7 +24,7 @@ use Rattle.sqlite_rules.proofs.ListLemmas.{some_has, some_from, has_filtered}
 use Rattle.sqlite_rules.proofs.ProbeLemmas.{mapped_has}
 use Rattle.sqlite_rules.proofs.PlaceLemmas.{left_or_taken, row_at_is}
 use Rattle.sqlite_rules.proofs.TableLemmas.{without_all_has}
-use Rattle.pid_tables.specs.declared.rows.version.Version.TheVariants.{Two}
+use Rattle.pid_tables.specs.declared.rows.schema_version.Version.TheVariants.{Two}
 use Rattle.pid_tables.specs.Rows.Schema.{schema_of, item}
 use Rattle.pid_tables.specs.Rows.PairRows.{Map, RowsAre}
 use Rattle.pid_tables.specs.Rows.TableRows.{item_row, since_row}

@@ -12,7 +12,7 @@ use Rattle.sqlite.specs.Does.{lacks_sequence}
 use Rattle.sqlite.specs.Listing.{understood}
 use Rattle.sqlite.proofs.Callers.{IsPlain, command_of, statement_of}
 use Rattle.sqlite_tied.specs.Compute.{everything}
-use Rattle.pid_tables.specs.declared.rows.version.Version.TheVariants.{One, Two}
+use Rattle.pid_tables.specs.declared.rows.schema_version.Version.TheVariants.{One, Two}
 use Rattle.pid_tables.specs.Rows.Schema.{schema_of, item_since}
 use Rattle.pid_tables.proofs.OfRows.Statements.{simple, program, IsAlone, command_alone, plain_alone}
 use Rattle.pid_tables.proofs.OfRows.StatementTexts.{create_since, fill_since}

@@ -10,7 +10,7 @@ use Rattle.sqlite_schema.specs.declared.schema.Action.TheVariants.{Cascade}
 use Rattle.pid_moderation.specs.declared.facts.State.TheVariants.{Pending}
 use Rattle.pid_moderation.specs.Items.{name_at}
 use Rattle.pid_moderation.specs.Views.{Views}
-use Rattle.pid_tables.specs.declared.rows.version.Version.TheVariants.{One, Two}
+use Rattle.pid_tables.specs.declared.rows.schema_version.Version.TheVariants.{One, Two}
 use Rattle.pid_tables.specs.Rows.Schema.{schema_of, item_since, to_item}
 use Rattle.pid_tables.specs.Rows.Shows.{ShowsNumbers, labels_of, counts_of, numbers_in, since_in}
 use Rattle.pid_tables.specs.Rows.Steps.Shows.{meta_of}

@@ -14,8 +14,8 @@ use Rattle.pid_moderation.specs.declared.rank.Rank.{Rank}
 use Rattle.pid_moderation.specs.Items.{name_at, has_name}
 use Rattle.pid_moderation.specs.Ranks.{rank_number}
 use Rattle.pid_moderation.specs.Views.{Views, Submitted, Remark, submission_at, is_named_anew}
-use Rattle.pid_tables.specs.declared.rows.version.Version.{Version}
-use Rattle.pid_tables.specs.declared.rows.version.Version.TheVariants.{Two}
+use Rattle.pid_tables.specs.declared.rows.schema_version.Version.{Version}
+use Rattle.pid_tables.specs.declared.rows.schema_version.Version.TheVariants.{Two}
 use Rattle.pid_tables.specs.Rows.Schema.{schema_of, meta, account, item, submission, remark, receipt, item_since}
 use Rattle.pid_tables.specs.Rows.TableRows.{number, meta_row, account_row, item_row, submission_row, remark_row, receipt_row, since_row, form_of, name_of, state_number, reply_kind, first_number, second_number, third_number}
 use Rattle.pid_moderation.specs.Submissions.{decider_of, reason_of, standing_in}

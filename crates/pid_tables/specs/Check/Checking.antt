@@ -1,7 +1,7 @@
 -- What the whole check answers.
 use Rattle.std.specs.Prelude.{Option, Some, None}
 use Rattle.sqlite.specs.Effect.{Database}
-use Rattle.pid_tables.specs.declared.rows.version.Version.{Version}
+use Rattle.pid_tables.specs.declared.rows.schema_version.Version.{Version}
 use Rattle.pid_tables.specs.declared.rows.fault.TableFault.{TableFault}
 use Rattle.pid_tables.specs.declared.rows.fault.TableFault.TheVariants.{Memory, Store, NewerSchema}
 use Rattle.pid_tables.specs.declared.rows.fault.TableFault.TheVariants.{Damaged}
@@ -9,7 +9,7 @@ use Rattle.pid_tables.specs.Check.Conditions.{Rows, rows_in, AreOfRegistry}
 use Rattle.pid_tables.specs.Check.Queries.{query_of}
 use Rattle.pid_tables.specs.Check.Shapes.{HasTables, HasSomeTable, HasNoTable, CanBeAsked}
 use Rattle.pid_tables.specs.Check.Shapes.{ShowsTables, ShowsLater}
-use Rattle.pid_tables.specs.declared.check.shape.Table.TheVariants.{Meta}
+use Rattle.pid_tables.specs.declared.check.schema.Table.TheVariants.{Meta}
 
 -- the rows that the tables of a schema show are those of a registry, or are not
 abbrev pub ShowsRegistry : Version → Database → Type 0

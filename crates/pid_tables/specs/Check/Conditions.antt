@@ -18,8 +18,8 @@ use Rattle.pid_moderation.specs.declared.facts.State.TheVariants.{Withdrawn}
 use Rattle.pid_moderation.specs.CheckTables.{most_items, most_remarks}
 use Rattle.pid_moderation.specs.CheckTables.{most_revision}
 use Rattle.pid_moderation.specs.WellMade.{ProposesName}
-use Rattle.pid_tables.specs.declared.rows.version.Version.{Version}
-use Rattle.pid_tables.specs.declared.rows.version.Version.TheVariants.{One, Two}
+use Rattle.pid_tables.specs.declared.rows.schema_version.Version.{Version}
+use Rattle.pid_tables.specs.declared.rows.schema_version.Version.TheVariants.{One, Two}
 use Rattle.pid_tables.specs.Rows.Schema.{latest, version_number}
 use Rattle.pid_tables.specs.Rows.Schema as tables
 use Rattle.pid_tables.specs.Rows.TableRows.{number, reply_kind, first_number, second_number}

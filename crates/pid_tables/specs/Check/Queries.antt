@@ -1,9 +1,9 @@
 -- The query of each table.
 use Rattle.std.specs.Prelude.{ℕ, List, codes}
-use Rattle.pid_tables.specs.declared.check.shape.Table.{Table}
-use Rattle.pid_tables.specs.declared.check.shape.Table.TheVariants.{Meta, Account, Item}
-use Rattle.pid_tables.specs.declared.check.shape.Table.TheVariants.{Submission, Remark, Receipt}
-use Rattle.pid_tables.specs.declared.check.shape.Table.TheVariants.{Since}
+use Rattle.pid_tables.specs.declared.check.schema.Table.{Table}
+use Rattle.pid_tables.specs.declared.check.schema.Table.TheVariants.{Meta, Account, Item}
+use Rattle.pid_tables.specs.declared.check.schema.Table.TheVariants.{Submission, Remark, Receipt}
+use Rattle.pid_tables.specs.declared.check.schema.Table.TheVariants.{Since}
 
 -- each table is asked for by its columns' names
 abbrev pub query_of : Table → List ℕ

@@ -7,12 +7,12 @@ use Rattle.sqlite.specs.Effect.{Database, Reads}
 use Rattle.sqlite.specs.Listing.{understood, reads_listing, IsSourceOf}
 use Rattle.sqlite_resolve.specs.declared.compiled.Compiled.{Compiled}
 use Rattle.sqlite_rules.specs.Lists.{Has}
-use Rattle.pid_tables.specs.declared.rows.version.Version.{Version}
-use Rattle.pid_tables.specs.declared.rows.version.Version.TheVariants.{One, Two}
+use Rattle.pid_tables.specs.declared.rows.schema_version.Version.{Version}
+use Rattle.pid_tables.specs.declared.rows.schema_version.Version.TheVariants.{One, Two}
 use Rattle.pid_tables.specs.Rows.Schema.{schema_of}
-use Rattle.pid_tables.specs.declared.check.shape.Table.TheVariants.{Meta, Account, Item}
-use Rattle.pid_tables.specs.declared.check.shape.Table.TheVariants.{Submission, Remark, Receipt}
-use Rattle.pid_tables.specs.declared.check.shape.Table.TheVariants.{Since}
+use Rattle.pid_tables.specs.declared.check.schema.Table.TheVariants.{Meta, Account, Item}
+use Rattle.pid_tables.specs.declared.check.schema.Table.TheVariants.{Submission, Remark, Receipt}
+use Rattle.pid_tables.specs.declared.check.schema.Table.TheVariants.{Since}
 use Rattle.pid_tables.specs.Check.Conditions.{Rows, IsNewer}
 use Rattle.pid_tables.specs.Check.Queries.{query_of, any_since}
 

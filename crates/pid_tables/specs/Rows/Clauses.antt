@@ -14,7 +14,7 @@ use Rattle.pid_tables.specs.declared.rows.fault.TableFault.{TableFault}
 use Rattle.pid_tables.specs.Rows.Causes as causes
 use Rattle.pid_tables.specs.Rows.Leaves as leaves
 use Rattle.pid_tables.specs.Rows.Shows.{Counts}
-use Rattle.pid_tables.specs.declared.rows.version.Version.{Version}
+use Rattle.pid_tables.specs.declared.rows.schema_version.Version.{Version}
 
 module _ {S : Type 0} (store : Ghosts S) where
   -- no fault has shut the connection

@@ -27,7 +27,7 @@ use Rattle.sqlite.specs.Schema.{Schema}
 use Rattle.pid_moderation.specs.Views.{Views}
 use Rattle.pid_tables.specs.declared.rows.fault.TableFault.{TableFault}
 use Rattle.pid_tables.specs.Rows.Causes.{IsCaused, IsReadable}
-use Rattle.pid_tables.specs.declared.rows.version.Version.{Version}
+use Rattle.pid_tables.specs.declared.rows.schema_version.Version.{Version}
 use Rattle.pid_tables.specs.Rows.Schema.{schema_of, pid_schema}
 use Rattle.pid_tables.specs.Rows.Shows.{Counts, ShowsIn, ShowsCounting, Shows}
 

@@ -14,8 +14,8 @@ use Rattle.pid_moderation.specs.declared.facts.State.TheVariants.{Pending}
 use Rattle.pid_moderation.specs.Items.{name_at}
 use Rattle.pid_moderation.specs.Submissions.{standing_in}
 use Rattle.pid_moderation.specs.Views.{Views, Submitted, Remark, submission_at}
-use Rattle.pid_tables.specs.declared.rows.version.Version.{Version}
-use Rattle.pid_tables.specs.declared.rows.version.Version.TheVariants.{One, Two}
+use Rattle.pid_tables.specs.declared.rows.schema_version.Version.{Version}
+use Rattle.pid_tables.specs.declared.rows.schema_version.Version.TheVariants.{One, Two}
 use Rattle.pid_tables.specs.Rows.Schema.{schema_of, version_number}
 use Rattle.pid_tables.specs.Rows.Schema as tables
 use Rattle.pid_tables.specs.Rows.PairRows.{Map, RowsAre}

@@ -3,10 +3,10 @@ ghost use Rattle.std.specs.Prelude.{◌↔◌, false, IsTrue};
 ghost use Rattle.pid_tables.specs.Check.Conditions.{IsAccountRow};
 ghost use Rattle.pid_tables.specs.Check.Steps.Clauses.{KeepsTable};
 ghost use Rattle.pid_tables.specs.Check.Steps.Keeping.{KeepsAccounts};
-ghost use Rattle.pid_tables.specs.declared.check.shape.Table.TheVariants as table;
+ghost use Rattle.pid_tables.specs.declared.check.schema.Table.TheVariants as table;
 
 use crate::check::read::{RowFold, fold_rows};
-use crate::check::shape::Table;
+use crate::check::schema::Table;
 use crate::check::value::{is_number_at, is_within, text_at};
 use crate::rows::TableFault;
 use crate::tables::Tables;

@@ -14,7 +14,7 @@ ghost use Rattle.pid_tables.specs.Check.Shapes.{HasEachTable, HasTables};
 
 use crate::check::lacking::check_lacking;
 use crate::check::meta::{Labels, are_labels, read_labels, revision_told};
-use crate::check::shape::{SIX, has_some_table, some_can, tables_of};
+use crate::check::schema::{SIX, has_some_table, some_can, tables_of};
 use crate::check::tables::read_tables;
 use crate::rows::{TableFault, Version};
 use crate::tables::Tables;

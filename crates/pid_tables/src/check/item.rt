@@ -26,11 +26,11 @@ ghost use Rattle.pid_tables.specs.Check.Steps.PathSets.{
 };
 ghost use Rattle.pid_tables.specs.Check.Steps.Clauses.{KeepsTable};
 ghost use Rattle.pid_tables.specs.Check.Steps.Keeping.{KeepsItems};
-ghost use Rattle.pid_tables.specs.declared.check.shape.Table.TheVariants as table;
+ghost use Rattle.pid_tables.specs.declared.check.schema.Table.TheVariants as table;
 ghost use Rattle.pid_tables.specs.Rows.Faults.{IsMemoryOrStore};
 
 use crate::check::read::{RowFold, checked_next, fold_rows};
-use crate::check::shape::Table;
+use crate::check::schema::Table;
 use crate::check::words::{has_name, path_at};
 use crate::rows::TableFault;
 use crate::tables::Tables;

@@ -4,7 +4,7 @@ ghost use Rattle.pid_tables.specs.Rows.Clauses.{HasCleanDisk, OnlyReads, seen};
 ghost use Rattle.pid_tables.specs.Check.Steps.Lacking.{ExplainsLater};
 
 use crate::check::meta::read_labels;
-use crate::check::shape::{Table, can_ask, query};
+use crate::check::schema::{Table, can_ask, query};
 use crate::rows::{TableFault, Version};
 use crate::tables::Tables;
 use sqlite::Alter;

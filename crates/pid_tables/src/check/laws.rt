@@ -7,7 +7,7 @@ ghost use Rattle.pid_moderation.specs.Sound.{IsSound};
 ghost use Rattle.pid_moderation.specs.Views.{revision_of, views_of};
 ghost use Rattle.pid_tables.specs.Rows.Faults.{IsMemoryOrStore};
 ghost use Rattle.pid_tables.specs.declared.rows.fault.TableFault.{TableFault};
-ghost use Rattle.pid_tables.specs.declared.rows.version.Version.{Version};
+ghost use Rattle.pid_tables.specs.declared.rows.schema_version.Version.{Version};
 ghost use Rattle.pid_tables.specs.Rows.Schema.{no_schema, schema_of};
 ghost use Rattle.pid_tables.specs.Rows.Shows.{ShowsIn};
 ghost use Rattle.pid_tables.specs.Check.Checking.{Explains, FindsVersion, IsRegistry};

@@ -27,10 +27,10 @@ ghost use Rattle.pid_tables.specs.Check.Steps.Labels.{
   TakesLabels,
 };
 ghost use Rattle.pid_tables.specs.declared.check.meta.Occurrence.TheVariants.{Never, Once};
-ghost use Rattle.pid_tables.specs.declared.check.shape.Table.TheVariants as table;
+ghost use Rattle.pid_tables.specs.declared.check.schema.Table.TheVariants as table;
 
 use crate::check::read::{RowFold, fold_rows};
-use crate::check::shape::Table;
+use crate::check::schema::Table;
 use crate::check::value::{is_text_at, number_at};
 use crate::rows::{LATEST, TableFault, Version};
 use crate::tables::Tables;

@@ -4,7 +4,7 @@ ghost use Rattle.sqlite.specs.Order.{Row as Values};
 ghost use Rattle.pid_tables.specs.Rows.Faults.{IsMemoryOrStore};
 ghost use Rattle.pid_tables.specs.Check.Steps.Clauses.{KeepsTable};
 
-use crate::check::shape::{Table, query};
+use crate::check::schema::{Table, query};
 use crate::rows::TableFault;
 use crate::tables::Tables;
 use sqlite::{Alter, Row};

@@ -7,7 +7,7 @@ ghost use Rattle.pid_tables.specs.Rows.TableRows.{number};
 ghost use Rattle.pid_tables.specs.Check.Conditions.{IsReceiptRow};
 ghost use Rattle.pid_tables.specs.Check.Steps.Clauses.{KeepsTable};
 ghost use Rattle.pid_tables.specs.Check.Steps.Keeping.{AreOfAuthors};
-ghost use Rattle.pid_tables.specs.declared.check.shape.Table.TheVariants as table;
+ghost use Rattle.pid_tables.specs.declared.check.schema.Table.TheVariants as table;
 ghost use Rattle.pid_tables.specs.Check.Steps.AuthorSets.{
   AreAuthorsOf,
   HasReply,
@@ -17,7 +17,7 @@ ghost use Rattle.pid_tables.specs.Check.Steps.AuthorSets.{
 
 use crate::check::authors::{Authors, is_by};
 use crate::check::read::{RowFold, fold_rows};
-use crate::check::shape::Table;
+use crate::check::schema::Table;
 use crate::check::value::{is_number_at, number_at, text_at};
 use crate::rows::TableFault;
 use crate::tables::Tables;

@@ -4,7 +4,7 @@ ghost use Rattle.pid_tables.specs.Check.Conditions.{AreRemarks};
 ghost use Rattle.pid_tables.specs.Check.Steps.Reading.{TakesRow};
 ghost use Rattle.pid_tables.specs.Check.Steps.Clauses.{KeepsTable};
 ghost use Rattle.pid_tables.specs.Check.Steps.Keeping.{IsPartJudged};
-ghost use Rattle.pid_tables.specs.declared.check.shape.Table.TheVariants as table;
+ghost use Rattle.pid_tables.specs.declared.check.schema.Table.TheVariants as table;
 ghost use Rattle.pid_tables.specs.Check.Steps.PlaceSets.{
   ArePlacesOf,
   FollowEach,
@@ -13,7 +13,7 @@ ghost use Rattle.pid_tables.specs.Check.Steps.PlaceSets.{
 };
 
 use crate::check::read::{RowFold, fold_rows};
-use crate::check::shape::Table;
+use crate::check::schema::Table;
 use crate::check::value::{has_number, has_words, number_at};
 use crate::check::words::has_filled_text;
 use crate::rows::TableFault;

@@ -4,11 +4,11 @@ ghost use Rattle.pid_tables.specs.Check.Conditions.{IsSinceRow};
 ghost use Rattle.pid_tables.specs.Check.Steps.PathSets.{HasPath};
 ghost use Rattle.pid_tables.specs.Check.Steps.Clauses.{KeepsTable};
 ghost use Rattle.pid_tables.specs.Check.Steps.Keeping.{GoWith};
-ghost use Rattle.pid_tables.specs.declared.check.shape.Table.TheVariants as table;
+ghost use Rattle.pid_tables.specs.declared.check.schema.Table.TheVariants as table;
 
 use crate::check::item::add_path;
 use crate::check::read::{RowFold, fold_rows};
-use crate::check::shape::Table;
+use crate::check::schema::Table;
 use crate::check::value::is_within;
 use crate::rows::TableFault;
 use crate::tables::Tables;

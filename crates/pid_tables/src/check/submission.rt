@@ -23,12 +23,12 @@ ghost use Rattle.pid_tables.specs.Check.Steps.NamesRead.{
 };
 ghost use Rattle.pid_tables.specs.Check.Steps.Clauses.{KeepsTable};
 ghost use Rattle.pid_tables.specs.Check.Steps.Keeping.{AreFit, KeepsSubmissions};
-ghost use Rattle.pid_tables.specs.declared.check.shape.Table.TheVariants as table;
+ghost use Rattle.pid_tables.specs.declared.check.schema.Table.TheVariants as table;
 
 use crate::check::authors::{Authors, add_author, no_authors};
 use crate::check::numbers::{Numbers, add_number, count_from_one, no_numbers};
 use crate::check::read::{RowFold, checked_next, fold_rows};
-use crate::check::shape::Table;
+use crate::check::schema::Table;
 use crate::check::value::{is_text_at, number_at, text_at};
 use crate::check::words::{has_filled_text, has_name, has_path, has_text};
 use crate::rows::TableFault;

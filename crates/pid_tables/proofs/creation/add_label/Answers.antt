@@ -5,7 +5,7 @@ use Rattle.pid_tables.specs.Rows.TableRows.{number}
 use Rattle.pid_tables.specs.Statements.{new_label_text}
 use Rattle.pid_tables.proofs.Carrying.{carried_one}
 use Rattle.pid_tables.proofs.CreateLemmas.{label_added}
-use Rattle.pid_tables.specs.declared.rows.version.Version.TheVariants.{Two}
+use Rattle.pid_tables.specs.declared.rows.schema_version.Version.TheVariants.{Two}
 use Rattle.pid_tables.specs.Rows.Schema.{pid_schema}
 use Rattle.pid_tables.proofs.OfRows.KeyTexts.{insert_meta_is}
 use Rattle.pid_tables.proofs.OfRows.WriteFaults.{led, insert_writes}

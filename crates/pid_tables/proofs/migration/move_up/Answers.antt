@@ -2,7 +2,7 @@ use Rattle.std.proofs.Common.{◌≡◌, true, Ok, OnOk, OnErr, refl, sym, subst
 use Rattle.sqlite.specs.Held.{state}
 use Rattle.sqlite.specs.State.{HasCleanDisk}
 use Rattle.sqlite.proofs.StateLemmas.{clean_if_open}
-use Rattle.pid_tables.specs.declared.rows.version.Version.TheVariants.{One}
+use Rattle.pid_tables.specs.declared.rows.schema_version.Version.TheVariants.{One}
 use Rattle.pid_tables.specs.Rows.Faults.{IsMemoryOrStore, IsNotNewerSchema}
 use Rattle.pid_tables.specs.Rows.Clauses.{seen}
 use Rattle.pid_tables.specs.Rows.Leaves.{AtRest, RestsIn}

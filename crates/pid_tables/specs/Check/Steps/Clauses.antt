@@ -6,7 +6,7 @@ use Rattle.sqlite.specs.Held.{Held, state}
 use Rattle.sqlite.specs.Order.{Row}
 use Rattle.sqlite_trees.specs.declared.store.Store.{Ghosts}
 use Rattle.pid_tables.specs.declared.rows.fault.TableFault.{TableFault}
-use Rattle.pid_tables.specs.declared.check.shape.Table.{Table}
+use Rattle.pid_tables.specs.declared.check.schema.Table.{Table}
 use Rattle.pid_tables.specs.Rows.Clauses.{HasCleanDisk, OnlyReads, seen}
 use Rattle.pid_tables.specs.Rows.Faults.{IsMemoryOrStore}
 use Rattle.pid_tables.specs.Check.Steps.Reading as reading

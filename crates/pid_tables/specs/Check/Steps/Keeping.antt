@@ -6,8 +6,8 @@ use Rattle.sqlite.specs.Effect.{Database}
 use Rattle.sqlite.specs.Order.{Row}
 use Rattle.sqlite_rules.specs.Lists.{Has}
 use Rattle.pid_file.specs.declared.path.Path.{Path}
-use Rattle.pid_tables.specs.declared.rows.version.Version.{Version}
-use Rattle.pid_tables.specs.declared.rows.version.Version.TheVariants.{One, Two}
+use Rattle.pid_tables.specs.declared.rows.schema_version.Version.{Version}
+use Rattle.pid_tables.specs.declared.rows.schema_version.Version.TheVariants.{One, Two}
 use Rattle.pid_tables.specs.Rows.TableRows.{number}
 use Rattle.pid_tables.specs.declared.check.account.Accounts.{Accounts}
 use Rattle.pid_tables.specs.declared.check.authors.Authors.{Authors}
@@ -20,8 +20,8 @@ use Rattle.pid_tables.specs.declared.check.submission.SubmissionFold.{Submission
 use Rattle.pid_tables.specs.declared.check.submission.Submissions.{Submissions}
 use Rattle.pid_tables.specs.declared.check.tables.Part.{Part}
 use Rattle.pid_tables.specs.declared.check.tables.Judged.{Judged}
-use Rattle.pid_tables.specs.declared.check.shape.Table.TheVariants.{Meta, Account, Item, Submission}
-use Rattle.pid_tables.specs.declared.check.shape.Table.TheVariants.{Receipt}
+use Rattle.pid_tables.specs.declared.check.schema.Table.TheVariants.{Meta, Account, Item, Submission}
+use Rattle.pid_tables.specs.declared.check.schema.Table.TheVariants.{Receipt}
 use Rattle.pid_tables.specs.Check.Steps.AuthorSets.{AreAuthorsOf}
 use Rattle.pid_tables.specs.Check.Steps.NameSets.{AreNamesOf}
 use Rattle.pid_tables.specs.Check.Steps.NamesRead.{IsSubmissionAmong}

@@ -3,13 +3,13 @@ use Rattle.std.specs.Prelude.{◌≡◌, ◌≢◌, ◌⊎◌, ◌↔◌, ℕ, L
 use Rattle.sqlite.specs.Effect.{Database}
 use Rattle.sqlite.specs.Order.{Row}
 use Rattle.sqlite_rules.specs.Lists.{Has}
-use Rattle.pid_tables.specs.declared.rows.version.Version.{Version}
-use Rattle.pid_tables.specs.declared.rows.version.Version.TheVariants.{One, Two}
+use Rattle.pid_tables.specs.declared.rows.schema_version.Version.{Version}
+use Rattle.pid_tables.specs.declared.rows.schema_version.Version.TheVariants.{One, Two}
 use Rattle.pid_tables.specs.Rows.Schema.{version_number}
 use Rattle.pid_tables.specs.declared.check.meta.Labels.{Labels}
 use Rattle.pid_tables.specs.declared.check.meta.Occurrence.{Occurrence}
 use Rattle.pid_tables.specs.declared.check.meta.Occurrence.TheVariants.{Never, Once, Several}
-use Rattle.pid_tables.specs.declared.check.shape.Table.TheVariants.{Meta}
+use Rattle.pid_tables.specs.declared.check.schema.Table.TheVariants.{Meta}
 use Rattle.pid_tables.specs.Check.Conditions.{label_row, IsNewer}
 use Rattle.pid_tables.specs.Check.Queries.{query_of}
 use Rattle.pid_tables.specs.Check.Shapes.{ShowsRows}

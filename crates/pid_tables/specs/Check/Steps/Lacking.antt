@@ -4,7 +4,7 @@ use Rattle.sqlite.specs.Effect.{Database}
 use Rattle.pid_tables.specs.declared.rows.fault.TableFault.{TableFault}
 use Rattle.pid_tables.specs.declared.rows.fault.TableFault.TheVariants.{Memory, Store, NewerSchema}
 use Rattle.pid_tables.specs.declared.rows.fault.TableFault.TheVariants.{Damaged}
-use Rattle.pid_tables.specs.declared.check.shape.Table.TheVariants.{Meta}
+use Rattle.pid_tables.specs.declared.check.schema.Table.TheVariants.{Meta}
 use Rattle.pid_tables.specs.Check.Queries.{query_of}
 use Rattle.pid_tables.specs.Check.Shapes.{CanBeAsked, ShowsLater}
 

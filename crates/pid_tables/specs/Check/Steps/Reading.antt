@@ -3,12 +3,12 @@ use Rattle.std.specs.Prelude.{◌≡◌, ◌++◌, ◌∷◌, [], List, Result, 
 use Rattle.sqlite.specs.Effect.{Database}
 use Rattle.sqlite.specs.Order.{Row}
 use Rattle.sqlite.specs.State.{State, HasCleanDisk}
-use Rattle.pid_tables.specs.declared.rows.version.Version.{Version}
+use Rattle.pid_tables.specs.declared.rows.schema_version.Version.{Version}
 use Rattle.pid_tables.specs.declared.rows.fault.TableFault.{TableFault}
 use Rattle.pid_tables.specs.declared.rows.fault.TableFault.TheVariants.{Memory, Store, NewerSchema}
 use Rattle.pid_tables.specs.declared.rows.fault.TableFault.TheVariants.{Damaged}
 use Rattle.pid_tables.specs.Rows.Faults.{IsMemoryOrStore}
-use Rattle.pid_tables.specs.declared.check.shape.Table.{Table}
+use Rattle.pid_tables.specs.declared.check.schema.Table.{Table}
 use Rattle.pid_tables.specs.Check.Queries.{query_of}
 use Rattle.pid_tables.specs.Check.Shapes.{CanBeAsked, ShowsRows}
 use Rattle.pid_tables.specs.Check.Checking.{ShowsDamage}

@@ -1,7 +1,7 @@
 -- Steps of Shapes.
 use Rattle.std.specs.Prelude.{Option, Some, None}
 use Rattle.sqlite.specs.Schema.{Schema}
-use Rattle.pid_tables.specs.declared.rows.version.Version.{Version}
+use Rattle.pid_tables.specs.declared.rows.schema_version.Version.{Version}
 use Rattle.pid_tables.specs.Check.Shapes.{HasTables}
 
 -- these tables, or those of neither schema, are there

@@ -21,7 +21,7 @@ use Rattle.sqlite.specs.State as states
 use Rattle.pid_tables.specs.Rows.Steps.Turns as turns
 use Rattle.pid_tables.specs.Rows.Clauses.{Executes, HasCleanDisk, IsCaused, OnlyReads, Tells}
 use Rattle.pid_tables.specs.Rows.Clauses.{is_open, seen}
-use Rattle.pid_tables.specs.declared.rows.version.Version.TheVariants.{One}
+use Rattle.pid_tables.specs.declared.rows.schema_version.Version.TheVariants.{One}
 
 module _ {S : Type 0} (store : Ghosts S) where
   abbrev pub Shown : List ℕ → Row → Held S → Held S → List Row → Type 0

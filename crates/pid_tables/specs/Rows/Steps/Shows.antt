@@ -1,6 +1,6 @@
 -- Steps of Shows.
 use Rattle.std.specs.Prelude.{ℕ, List}
-use Rattle.pid_tables.specs.declared.rows.version.Version.TheVariants.{Two}
+use Rattle.pid_tables.specs.declared.rows.schema_version.Version.TheVariants.{Two}
 use Rattle.pid_tables.specs.Rows.PairRows.{Map}
 use Rattle.pid_tables.specs.Rows.Shows.{Counts, labels_of}
 

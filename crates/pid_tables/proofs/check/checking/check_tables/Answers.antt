@@ -1,6 +1,6 @@
 use Rattle.std.proofs.Common.{Option, None, ℕ, inl, refl, subst}
 use Rattle.sqlite.specs.Held.{state}
-use Rattle.pid_tables.specs.declared.rows.version.Version.{Version}
+use Rattle.pid_tables.specs.declared.rows.schema_version.Version.{Version}
 use Rattle.pid_tables.proofs.OfRows.CauseLemmas.{passed_on}
 use Rattle.pid_tables.proofs.OfRows.OnlyReading.{reads_then}
 use Rattle.pid_tables.specs.Check.Checking.{Explains}

@@ -3,7 +3,7 @@ use Rattle.std.specs.Prelude.{is_none}
 use Rattle.std.proofs.lemmas.Bool.{cases_Bool}
 use Rattle.sqlite.specs.Held.{state}
 use Rattle.sqlite.specs.Listing.{understood}
-use Rattle.pid_tables.specs.declared.rows.version.Version.TheVariants.{Two}
+use Rattle.pid_tables.specs.declared.rows.schema_version.Version.TheVariants.{Two}
 use Rattle.pid_tables.specs.Rows.Schema.{pid_schema}
 use Rattle.pid_tables.specs.Rows.Steps.Queries.{IsWriteAs}
 use Rattle.pid_tables.proofs.ApplyLemmas.{none_there}

@@ -1,5 +1,5 @@
 use Rattle.sqlite.specs.Held.{state}
-use Rattle.pid_tables.specs.declared.rows.version.Version.TheVariants.{Two}
+use Rattle.pid_tables.specs.declared.rows.schema_version.Version.TheVariants.{Two}
 use Rattle.pid_tables.specs.Rows.Schema.{pid_schema}
 use Rattle.pid_tables.proofs.OfRows.KeyTexts.{insert_item_is, insert_since_is}
 use Rattle.pid_tables.proofs.OfRows.WriteFaults.{led_on, insert_writes}

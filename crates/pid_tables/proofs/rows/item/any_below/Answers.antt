@@ -2,7 +2,7 @@ use Rattle.std.proofs.Common.{◌≡◌, ◌∙◌, ap, length}
 use Rattle.std.specs.Prelude.{not, ◌==◌}
 use Rattle.std.specs.Vec.{vec_len}
 use Rattle.sqlite.specs.Held.{state}
-use Rattle.pid_tables.specs.declared.rows.version.Version.TheVariants.{Two}
+use Rattle.pid_tables.specs.declared.rows.schema_version.Version.TheVariants.{Two}
 use Rattle.pid_tables.specs.Rows.Causes.{IsCaused, IsReadable}
 use Rattle.pid_tables.specs.Rows.Shows.{AreViews, counts_of}
 use Rattle.pid_tables.specs.Rows.Steps.Answers.{IsFirstWithin}

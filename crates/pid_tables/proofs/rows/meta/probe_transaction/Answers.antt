@@ -4,7 +4,7 @@ use Rattle.pid_tables.proofs.OfRows.CauseLemmas.{passed_on}
 use Rattle.pid_tables.proofs.OfRows.KeyTexts.{select_meta_is}
 use Rattle.pid_tables.proofs.OfRows.StatementTexts.{select_meta}
 use Rattle.pid_tables.proofs.OfRows.ReadLemmas.{shows_still}
-use Rattle.pid_tables.specs.declared.rows.version.Version.TheVariants.{Two}
+use Rattle.pid_tables.specs.declared.rows.schema_version.Version.TheVariants.{Two}
 use Rattle.pid_tables.specs.Rows.Schema.{pid_schema}
 use Rattle.pid_tables.proofs.MoveLemmas.{goes_fault, goes_value}
 use Rattle.pid_tables.proofs.rows.meta.probe_transaction.Goals as goal

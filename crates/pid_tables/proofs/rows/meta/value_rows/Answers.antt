@@ -1,5 +1,5 @@
 use Rattle.std.proofs.Common.{true, refl}
-use Rattle.pid_tables.specs.declared.rows.version.Version.TheVariants.{Two}
+use Rattle.pid_tables.specs.declared.rows.schema_version.Version.TheVariants.{Two}
 use Rattle.pid_tables.specs.Rows.Shows.{counts_of}
 use Rattle.pid_tables.specs.Rows.Schema.{pid_schema}
 use Rattle.pid_tables.proofs.OfRows.StatementTexts.{select_meta}

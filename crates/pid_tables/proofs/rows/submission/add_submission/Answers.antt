@@ -1,6 +1,6 @@
 use Rattle.std.proofs.Common.{refl, rules, ◌∙◌}
 use Rattle.sqlite.specs.Held.{state}
-use Rattle.pid_tables.specs.declared.rows.version.Version.TheVariants.{Two}
+use Rattle.pid_tables.specs.declared.rows.schema_version.Version.TheVariants.{Two}
 use Rattle.pid_tables.specs.Rows.Schema.{pid_schema}
 use Rattle.pid_tables.specs.declared.rows.fault.TableFault.TheVariants.{Memory}
 use Rattle.pid_tables.specs.Rows.Faults.{IsMemoryOrStore}
