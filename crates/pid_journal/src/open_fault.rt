@@ -5,8 +5,8 @@ use thiserror::Error;
 /// Why a journal was not put in front of a registry.
 #[derive(Clone, Copy, Debug, Error)]
 pub enum OpenFault {
-    /// Memory ran out, the registry has failed, or its store or the file of the journal failed, in
-    /// which a command lacks its comment, too. Lines may have been obeyed; another opening goes on
+    /// Memory ran out, the registry has failed, its store or the file of the journal failed, or a
+    /// command in that file lacks its comment. Lines may have been obeyed; another opening goes on
     /// after them.
     #[error("{0}")]
     Refused(Refusal),
