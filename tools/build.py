@@ -1,7 +1,7 @@
 #!/usr/bin/env python3
 """Proves and builds a program and the libraries that it consists of, several side by side.
 
-    tools/build.py PROGRAM [PROCESSORS]
+    tools/build.py PROGRAM [PROCESSORS] [--llvm]
 
 Each crate is proved from nothing. Of a library, `rattle build --statements` then writes what the
 crates above it can cite, without the proofs, so that they have less to load than of a library that
@@ -10,6 +10,8 @@ longest chain of crates waits begin first, and the others give way to them. A li
 or one that is built alone, has half of the processors. Each other crate has one job, since a prover
 with N jobs makes a copy of itself for each module, and a program has few functions of its own. The
 largest crate of a program of two libraries has all of them.
+Rattle's own compiler makes the program; with --llvm LLVM does, which takes longer, for a program
+that is faster.
 Says on standard error how far it is, and if a crate is not proved, what `rattle` said of it.
 """
 
@@ -104,10 +106,10 @@ def processors():
 class Toolchain:
     """The commands that prove, build and link, and the sum by which `rt` knows a built library."""
 
-    def __init__(self, uses):
+    def __init__(self, uses, backend="rattle"):
         page = subprocess.run(["rt", "doc"], stdout=subprocess.PIPE, text=True, check=True)
         self.kit = os.path.dirname(page.stdout.strip())
-        self.uses = uses
+        self.uses, self.backend = uses, backend
         sys.path.insert(0, os.path.join(self.kit, "bin"))
 
     def build(self, crate, jobs):
@@ -123,8 +125,7 @@ class Toolchain:
         command += ["--logic-built", f"{self.kit}/logic_built"]
         command += ["--links", f"{crate}=", "--jobs", str(jobs)]
         if self.is_program(crate):
-            command += ["--toolchain", f"{self.kit}/toolchain"]
-            command += ["--backend", "rattle" if crate == FIRST else "llvm"]
+            command += ["--toolchain", f"{self.kit}/toolchain", "--backend", self.backend]
             return [*command, "-o", f"out/{crate}.o"]
         return [*command, "--statements", "-o", self.library(crate)]
 
@@ -157,13 +158,13 @@ class Toolchain:
 class Build:
     """The crates of a program: which are built, and which are being built."""
 
-    def __init__(self, program, processors):
+    def __init__(self, program, processors, backend):
         self.uses = read_uses()
         self.crates = [*below(self.uses, program), program]
         self.below = {crate: below(self.uses, crate) for crate in self.crates}
         # Whether next to nothing can be built beside the largest crate.
         self.is_small = len(self.crates) <= 3
-        self.toolchain = Toolchain(self.uses)
+        self.toolchain = Toolchain(self.uses, backend)
         self.processors = processors
         self.built, self.begun, self.failed = set(), set(), False
         # Those that are proved, in turn, and since when others are being proved.
@@ -316,12 +317,14 @@ class Build:
 
 
 def main():
-    program, *count = sys.argv[1:]
+    program, *words = sys.argv[1:]
+    count = [it for it in words if it != "--llvm"]
     # The program is then newer than what it was built from, and older than what changed meanwhile.
     start, path = time.time_ns(), os.path.join(folder(program), "out", program)
     if not os.access(os.environ.get("TMPDIR", "/tmp"), os.W_OK):
         os.environ.pop("TMPDIR", None)
-    build = Build(program, int(count[0]) if count else processors())
+    backend = "llvm" if "--llvm" in words else "rattle"
+    build = Build(program, int(count[0]) if count else processors(), backend)
     signal.signal(signal.SIGTERM, lambda *_: sys.exit(build.stop() or 143))
     is_built, is_small = False, program == FIRST
     what = "the first program, for tidy, check and help" if is_small else "the whole program"
