@@ -219,6 +219,10 @@ class Specs:
                 left += self.cited_by(key)
         return seen
 
+# Promises speak of what a database shows, which is the first member of the trait. That sqlite's
+# connection does what tables ask of it is proved in `connection.rt` of `pid_tables`.
+SHOWN_ALONE = {"Database", "WritableDatabase"}
+
 
 class Sources:
     """The contracts of the public calls, and the ghost members of the traits."""
@@ -284,6 +288,8 @@ class Sources:
             seen.add(name)
             lines, at = self.of_traits[name]
             end = next(i for i in range(at, len(lines)) if lines[i] == "}")
+            if name in SHOWN_ALONE:
+                end = next(i for i in range(at, end) if lines[i].startswith("    fn "))
             body = "\n".join(it for it in lines[at:end] if not it.strip().startswith("//"))
             left += re.findall(r"\w+", " ".join(re.findall(r"^ +type \w+: (.*);", body, re.M)))
             yield lines, body

@@ -5,7 +5,7 @@ use Rattle.std.proofs.Math.Logic.{∥∥₁_map}
 use Rattle.sqlite.proofs.Theorems.{next_run}
 use Rattle.sqlite.specs.Effect.{Database}
 use Rattle.sqlite.specs.Files.{file_state, over_files}
-use Rattle.sqlite.specs.Held.{AreDatabases, Held}
+use Rattle.sqlite.specs.Held.{AreDatabases, Held, state}
 use Rattle.sqlite.specs.Schema.{Schema}
 use Rattle.sqlite.specs.State as states
 use Rattle.sqlite.specs.Tree.{Trees}
@@ -24,12 +24,12 @@ use Rattle.pid_tables.specs.Rows.Clauses as clauses
 use Rattle.pid_tables.specs.Rows.Leaves.{as_found}
 use Rattle.pid_tables.specs.Rows.Schema.{no_schema, pid_schema, schema_of}
 use Rattle.pid_tables.specs.Rows.Shows.{Shows as ShowsViews}
-use Rattle.pid_service.specs.declared.registry.Registry.{Registry}
 use Rattle.pid_service.specs.Histories.{FailsBetween, Shows}
 use Rattle.pid_service.specs.Sessions.{IsAfterStop, showing}
 use Rattle.pid_service.specs.Registries.{HasCleanDisk, connection}
 use Rattle.sqlite.specs.Start.{FindsIn}
 use Rattle.sqlite_wal.specs.Recovery.{Image}
+use Rattle.pid_cli.specs.Databases.{RegistryOver, database}
 use Rattle.pid_cli_jobs.specs.Files.{Closed, IsLeftIn, IsNextRun, Stopped, Unclosed}
 
 -- trees that show the one or the other are a database
@@ -41,17 +41,17 @@ either_sound db first second (inr shows) = (pid_schema, shows.sound)
 
 module _ {S : Type 0} (store : Ghosts S) where
   -- what a stop may leave of a connection is a database
-  pub rest_sound : (conn : Held S) (v : Views) → clauses.AtRest store conn v
-      → clauses.HasCleanDisk store conn → AreDatabases (store.recovers conn.store)
+  pub rest_sound : (conn : Held S) (v : Views) → clauses.AtRest (state store) conn v
+      → clauses.HasCleanDisk (state store) conn → AreDatabases (store.recovers conn.store)
   rest_sound conn v rest clean db left = (pid_schema, (rest.leaves.each clean db left).sound)
 
-  pub between_sound : (conn : Held S) (v w : Views) → clauses.LeavesEither store conn v w
-      → clauses.HasCleanDisk store conn → AreDatabases (store.recovers conn.store)
+  pub between_sound : (conn : Held S) (v w : Views) → clauses.LeavesEither (state store) conn v w
+      → clauses.HasCleanDisk (state store) conn → AreDatabases (store.recovers conn.store)
   between_sound conn v w either clean db left = either_sound db v w (either.each clean db left)
 
   -- of a connection whose tables show a history in one schema or the other, or none
-  pub tables_sound : (conn : Held S) (h : History) → ShowsOrBlank store conn h
-      → clauses.HasCleanDisk store conn → AreDatabases (store.recovers conn.store)
+  pub tables_sound : (conn : Held S) (h : History) → ShowsOrBlank (state store) conn h
+      → clauses.HasCleanDisk (state store) conn → AreDatabases (store.recovers conn.store)
   tables_sound conn h (inl rest) clean db left = rest_sound conn (views_of h) rest clean db left
   tables_sound conn h (inr (inl older)) clean db left =
       let shown = older.leaves.each clean db left in (schema_of shown.0, shown.1.sound)
@@ -61,18 +61,18 @@ module _ {S : Type 0} (store : Ghosts S) where
   ]
 
   -- as a registry ends
-  pub ends_sound : (ended : Registry S store) (calls : List Call) (h : History)
+  pub ends_sound : (ended : RegistryOver store) (calls : List Call) (h : History)
       (before after : Asked → History)
-      → Shows store ended h ⊎ ((c : Asked) × StopsAt c calls
-      × FailsBetween store ended (before c) (after c))
-      → HasCleanDisk store ended → AreDatabases (store.recovers (connection ended).store)
+      → Shows (database store) ended h ⊎ ((c : Asked) × StopsAt c calls
+      × FailsBetween (database store) ended (before c) (after c))
+      → HasCleanDisk (database store) ended → AreDatabases (store.recovers (connection ended).store)
   ends_sound ended calls h before after (inl shows) clean =
       rest_sound (connection ended) (views_of h) shows.tables clean
   ends_sound ended calls h before after (inr (c, at, fails)) clean =
       between_sound (connection ended) (views_of (before c)) (views_of (after c)) fails.leaves clean
 
-  pub session_sound : (h : History) (calls : List Call) (ended : Registry S store)
-      → EndsSession (showing store) h calls ended → HasCleanDisk store ended
+  pub session_sound : (h : History) (calls : List Call) (ended : RegistryOver store)
+      → EndsSession (showing (database store)) h calls ended → HasCleanDisk (database store) ended
       → AreDatabases (store.recovers (connection ended).store)
   session_sound h calls ended session clean = ends_sound ended calls (after_session h (session_of calls NoDoubt))
       (λ c. after_session h (session_of calls (InDoubt c false)))
@@ -102,7 +102,7 @@ module _ {D E : Type 0} {g : disk.Ghosts D} {k : disk.Ghosts E} where
       → (IsTrue (view earlier.store).is_open → recovers earlier.store (view earlier.store).committed)
       → AreDatabases (recovers earlier.store) → IsNextRun earlier conn
       → states.HasCleanDisk (file_state conn)
-      → ∥ IsAfterStop over_files over_files earlier conn ∥₁
+      → ∥ IsAfterStop (database over_files) (database over_files) earlier conn ∥₁
   finds_left earlier conn stays sound run clean =
       let opened = run.opens.opened clean in
       ∥∥₁_map (finds earlier conn stays sound run.image run.left (run.opens.found clean))

@@ -7,11 +7,11 @@ use Rattle.pid_file.specs.declared.io.Output as outputs
 use Rattle.pid_file.specs.Writing.{WriterUse, use_of}
 use Rattle.pid_service_laws.specs.declared.faults.ExportFault.{ExportFault}
 use Rattle.pid_service_laws.specs.declared.faults.ExportFault.TheVariants as exports
-use Rattle.pid_service.specs.declared.registry.Registry.{Registry}
 use Rattle.pid_service.specs.Exporting.{IsExported}
 use Rattle.pid_cli_jobs.specs.declared.job_end.JobEnd.{JobEnd}
 use Rattle.pid_cli_jobs.specs.declared.job_end.JobEnd.TheVariants.{Exited, Refused, FileFailed}
 use Rattle.pid_cli_jobs.specs.Lines.{IsUnreported, Streams, streams}
+use Rattle.pid_cli.specs.Databases.{RegistryOver, database}
 use Rattle.pid_cli.specs.Openings.{WorksAt}
 
 -- that an export was refused, or that the writer failed, is still to be reported
@@ -23,9 +23,9 @@ export_end (Err (exports.Write fault)) = FileFailed
 module _ {S : Type 0} (store : Ghosts S) where
   -- The canonical text of the registry went to the writer, or a part of it before a fault.
   pub record PrintsAll {W : Type 0} (writer : outputs.Ghosts W) (before after : W) (w : Streams)
-      (end : JobEnd) (old new : Registry S store) : Type 0 where
+      (end : JobEnd) (old new : RegistryOver store) : Type 0 where
     pub result : Result (Unit {0}) ExportFault
-    pub exported : IsExported store writer old new before after result
+    pub exported : IsExported (database store) writer old new before after result
     pub ends : end ≡ export_end result
     pub silent : IsUnreported w
 

@@ -1,3 +1,4 @@
+pub mod Databases
 pub mod Openings
 pub mod Exports
 pub mod Migrations

@@ -1,6 +1,6 @@
 -- What a migration does, prints and reports. Choices of this project.
 use Rattle.std.specs.Prelude.{◌≡◌, false, ℕ, List, codes, Result, Ok, Err}
-use Rattle.sqlite.specs.Held.{Held, IsNew}
+use Rattle.sqlite.specs.Held.{Held, IsNew, state}
 use Rattle.sqlite_trees.specs.declared.store.Store.{Ghosts}
 use Rattle.pid_service.specs.Opening.{MovesAtOnce, MovesJudged, MovesShown, MovesTo}
 use Rattle.pid_tables.specs.declared.migration.Step.{Step}
@@ -22,10 +22,10 @@ module _ {S : Type 0} (store : Ghosts S) where
   -- what `migrate` answers and leaves of a new connection, whatever is in the file
   pub record IsMigration (conn : Held S) (result : Result (Held S × Step) (TableFault × Held S))
       : Type 0 where
-    pub history : MovesTo store conn result
-    pub at_once : conn.in_transaction ≡ false → MovesAtOnce store conn result
-    pub shown : conn.in_transaction ≡ false → MovesShown store conn result
-    pub judged : conn.in_transaction ≡ false → MovesJudged store conn result
+    pub history : MovesTo (state store) conn result
+    pub at_once : conn.in_transaction ≡ false → MovesAtOnce (state store) conn result
+    pub shown : conn.in_transaction ≡ false → MovesShown (state store) conn result
+    pub judged : conn.in_transaction ≡ false → MovesJudged (state store) conn result
 
 module _ {S : Type 0} (store : Ghosts S) (IsAt IsClosed : Held S → Type 0) where
   -- The tables of a new connection to this place were migrated, and it was closed; or it is reported

@@ -1,8 +1,7 @@
 -- The registry at a place: opened on a new connection, and closed. Choices of this project.
 use Rattle.std.specs.Prelude.{◌≡◌, false, IsTrue, Result, Ok, Err}
-use Rattle.sqlite.specs.Held.{Held, IsNew}
+use Rattle.sqlite.specs.Held.{Held, IsNew, state}
 use Rattle.sqlite_trees.specs.declared.store.Store.{Ghosts}
-use Rattle.pid_service.specs.declared.registry.Registry.{Registry}
 use Rattle.pid_service.specs.Histories.{as_calls}
 use Rattle.pid_service.specs.Opening.{ExplainsOpening, OpensAtOnce, OpensRegistry, OpensTo}
 use Rattle.pid_service.specs.Opening.{connection_left, opening_end}
@@ -15,6 +14,7 @@ use Rattle.pid_cli_jobs.specs.declared.unopened.Unopened.TheVariants.{Memory, St
 use Rattle.pid_cli_jobs.specs.declared.unopened.Unopened.TheVariants.{NewerSchema}
 use Rattle.pid_cli_jobs.specs.Lines.{Streams}
 use Rattle.pid_cli_jobs.specs.Sessions.{IsOfDatabase, Works}
+use Rattle.pid_cli.specs.Databases.{RegistryOver, database}
 
 -- why none was opened, by its tables
 abbrev pub reason_of_tables : TableFault → Reason
@@ -25,18 +25,18 @@ reason_of_tables (tables.NewerSchema schema) = NewerSchema schema
 
 module _ {S : Type 0} (store : Ghosts S) where
   -- what `open` answers and leaves of a new connection, whatever is in the file
-  pub record IsOpening (conn : Held S) (result : Result (Registry S store)
+  pub record IsOpening (conn : Held S) (result : Result (RegistryOver store)
       (TableFault × Held S)) : Type 0 where
-    pub history : OpensTo store conn result
-    pub registry : conn.in_transaction ≡ false → OpensRegistry store conn result
+    pub history : OpensTo (database store) conn result
+    pub registry : conn.in_transaction ≡ false → OpensRegistry (database store) conn result
     pub at_once : conn.in_transaction ≡ false
-        → OpensAtOnce store conn (connection_left store result) (opening_end store result)
+        → OpensAtOnce (state store) conn (connection_left result) (opening_end result)
     pub explains : conn.in_transaction ≡ false
-        → ExplainsOpening store conn (connection_left store result) (opening_end store result)
+        → ExplainsOpening (state store) conn (connection_left result) (opening_end result)
 
 module _ {S : Type 0} (store : Ghosts S) (IsAt : Held S → Type 0) where
   -- the registry was opened on a new connection to this place
-  pub record IsOpenedAt (opened : Registry S store) : Type 0 where
+  pub record IsOpenedAt (opened : RegistryOver store) : Type 0 where
     pub conn : Held S
     pub at : IsAt conn
     pub fresh : IsNew conn
@@ -50,7 +50,7 @@ module _ {S : Type 0} (store : Ghosts S) (IsAt : Held S → Type 0) where
 
 module _ {S : Type 0} (store : Ghosts S) (IsAt IsClosed : Held S → Type 0) where
   -- what a job does with the registry at this place, alone
-  abbrev pub WorksAt : (Streams → JobEnd → Registry S store → Registry S store → Type 0) → Streams
-      → JobEnd → Type 0
-  WorksAt = Works (as_calls store) (IsOpenedAt store IsAt) (IsUnopened store IsAt)
+  abbrev pub WorksAt : (Streams → JobEnd → RegistryOver store → RegistryOver store → Type 0)
+      → Streams → JobEnd → Type 0
+  WorksAt = Works (as_calls (database store)) (IsOpenedAt store IsAt) (IsUnopened store IsAt)
       (λ r. IsTrue (is_live r) → IsClosed (connection r))

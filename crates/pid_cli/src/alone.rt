@@ -4,6 +4,7 @@ ghost use Rattle.pid_cli.specs.Openings.{reason_of_tables};
 
 use pid_cli_jobs::{Databases, Registries, Unopened};
 use pid_service::{Registry, TableFault, open};
+use sqlite::Connection;
 
 /// Registries with nothing in front of them. A connection on which `open` finds none is dropped as
 /// it is: to close it would copy its log into a file that was refused.
@@ -15,7 +16,7 @@ impl<D: Databases> Registries<D> for Alone {
     ghost use Rattle.pid_service.specs.Registries.{connection, is_live};
     ghost use Rattle.pid_cli.specs.Openings.{IsOpenedAt, IsUnopened};
 
-    type Registry = Registry<D::Kept>;
+    type Registry = Registry<Connection<D::Kept>>;
 
     ghost is_opened = { λ _ path registry. IsOpenedAt D.Kept.Store (D.is_at path) registry };
 
@@ -23,7 +24,11 @@ impl<D: Databases> Registries<D> for Alone {
 
     ghost is_closed = { λ registry. IsTrue (is_live registry) → D.is_closed (connection registry) };
 
-    fn open(&mut self, databases: &mut D, path: &str) -> Result<Registry<D::Kept>, Unopened> {
+    fn open(
+        &mut self,
+        databases: &mut D,
+        path: &str,
+    ) -> Result<Registry<Connection<D::Kept>>, Unopened> {
         let conn = databases.open(path)?;
         match open(databases.alloc(), conn) {
             Ok(registry) => Ok(registry),
@@ -34,15 +39,15 @@ impl<D: Databases> Registries<D> for Alone {
         }
     }
 
-    fn is_live(&self, registry: &Registry<D::Kept>) -> bool {
+    fn is_live(&self, registry: &Registry<Connection<D::Kept>>) -> bool {
         registry.is_live()
     }
 
-    fn prepare(&self, registry: &mut Registry<D::Kept>) {
+    fn prepare(&self, registry: &mut Registry<Connection<D::Kept>>) {
         let _ = registry.prepare();
     }
 
-    fn close(&mut self, databases: &mut D, registry: Registry<D::Kept>) {
+    fn close(&mut self, databases: &mut D, registry: Registry<Connection<D::Kept>>) {
         if registry.is_live() {
             databases.close(&mut Some(registry.close()));
         }

@@ -59,9 +59,10 @@ pub fn export<D: Databases, O: Write + Drop, F: Output>(
     let mut output = Plain::new(buffer);
     let end = print_all(databases, path, &mut output, faults);
     let mut buffer = output.into_inner();
-    let end = match (end, buffer.flush()) {
-        (JobEnd::Exited(0), Err(_)) => JobEnd::FileFailed,
-        _ => end,
+    let end = if let (JobEnd::Exited(0), Err(_)) = (end, buffer.flush()) {
+        JobEnd::FileFailed
+    } else {
+        end
     };
     let (output, _) = buffer.into_parts();
     (end, output)

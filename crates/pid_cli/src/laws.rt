@@ -14,14 +14,14 @@ ghost use Rattle.pid_cli.specs.Files.{
 
 use pid_ident::Output;
 use pid_service::Registry;
-use sqlite::Alter;
+use sqlite::{Alter, Connection};
 use sqlite_disk::Disk;
 
 /// What a stop leaves of a registry, after any calls, is a database.
 pub fn calls_leave_databases<S: Alter + Drop>()
     ensures { CallsLeaveDatabases S.Store }
 {
-    pid_service_laws::calls_make_a_session::<Registry<S>>(); // proof only
+    pid_service_laws::calls_make_a_session::<Registry<Connection<S>>>(); // proof only
 }
 
 /// What a stop leaves of a connection whose tables show a history is a database too: after a
@@ -44,5 +44,5 @@ pub fn files_show_what_was_left<D: Disk, E: Disk>()
 pub fn runs_show_prefixes<S: Alter + Drop, T: Alter + Drop, O: Output>()
     ensures { RunsShowPrefixes S.Store T.Store O.Output }
 {
-    pid_service::laws::openings_tell_prefixes::<S, T, O>(); // proof only
+    pid_service::laws::openings_tell_prefixes::<Connection<S>, Connection<T>, O>(); // proof only
 }

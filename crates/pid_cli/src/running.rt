@@ -4,7 +4,10 @@ use crate::exporting::export;
 use crate::migrating::migrate;
 use pid_cli_args::Job;
 use pid_cli_args::terminal::{Counted, Progress, Seen};
-use pid_cli_jobs::{DatabaseFiles, Host, Machine, answer_lookup, report_end, run_on_registry};
+use pid_cli_jobs::{
+    DatabaseFiles, Host, HostFolder, InMemory, JobEnd, Journaling, Machine, Registries, Unopened,
+    answer_lookup, import, report_end, report_unopened, script, serve,
+};
 use pid_file::{TextEnd, Watched, report_text_end, run_check, run_tidy};
 use pid_ident::{Output, Plain};
 use std::io::{BufWriter, IsTerminal, Read, Write};
@@ -24,12 +27,12 @@ pub fn run_on_host<P: DatabaseFiles, I: Read, O: Write, F: Write>(
     output: &mut O,
     faults: &mut F,
 ) -> u8 {
-    run_job(rt, &mut Host::new(rt, files), job, input, output, faults)
+    run_on_machine(rt, &mut Host::new(rt, files), job, input, output, faults)
 }
 
 // Does a job on any machine. The runtime shows the progress and has the folders of journals, and is
 // asked for nothing else.
-fn run_job<M: Machine, I: Read, O: Write, F: Write>(
+fn run_on_machine<M: Machine, I: Read, O: Write, F: Write>(
     rt: &HostRuntime,
     machine: &mut M,
     job: Job<'_>,
@@ -37,21 +40,63 @@ fn run_job<M: Machine, I: Read, O: Write, F: Write>(
     output: &mut O,
     faults: &mut F,
 ) -> u8 {
-    let alloc = machine.alloc();
-    match job {
-        Job::Tidy => return run_tidy(alloc, input, output, faults).0,
-        Job::Check => return run_check(alloc, input, output, faults).0,
-        Job::Export { db } => return run_export(rt, machine, db, output, &mut Plain::new(faults)),
-        _ => {}
-    }
-    let mut to = Plain::new(Watched::new(output));
-    let mut errors = Plain::new(faults);
-    let end = match job {
-        Job::Lookup(words) => answer_lookup(machine, &words, &mut to, &mut errors),
-        Job::Migrate { db } => migrate(machine, db, &mut to, &mut errors),
-        _ => run_on_registry(rt, machine, Alone, job, input, &mut to, &mut errors),
+    let mut output = Watched::new(output);
+    let end = run_with_journal(rt, machine, Alone, job, input, &mut output, faults);
+    report_end(end, output.is_unread(), &mut Plain::new(faults))
+}
+
+// Does a job with a journal in front of its registry, if the arguments name one.
+fn run_with_journal<M: Machine, G, I: Read, O: Write, F: Write>(
+    rt: &HostRuntime,
+    machine: &mut M,
+    mut registries: G,
+    job: Job<'_>,
+    input: &mut I,
+    output: &mut O,
+    faults: &mut F,
+) -> JobEnd
+where
+    G: Registries<M> + Registries<InMemory> + Copy,
+{
+    let Some(path) = job.journal() else {
+        return run_job(rt, machine, &mut registries, job, input, output, faults);
     };
-    report_end(end, to.into_inner().is_unread(), &mut errors)
+    let Some(folder) = HostFolder::at(rt, path) else {
+        return report_unopened(Unopened::JournalFailed, &mut Plain::new(faults));
+    };
+    let registries = &mut Journaling::new(registries, folder);
+    run_job(rt, machine, registries, job, input, output, faults)
+}
+
+// Does a job. If it is on a registry, `registries` opens that; a script without a file has one in
+// memory.
+fn run_job<M: Machine, G: Registries<M> + Registries<InMemory>, I: Read, O: Write, F: Write>(
+    rt: &HostRuntime,
+    machine: &mut M,
+    registries: &mut G,
+    job: Job<'_>,
+    input: &mut I,
+    output: &mut O,
+    faults: &mut F,
+) -> JobEnd {
+    let alloc = machine.alloc();
+    let memory = &mut InMemory(alloc);
+    let lines = &mut Plain::new(&mut *input);
+    let (to, errors) = (&mut Plain::new(&mut *output), &mut Plain::new(&mut *faults));
+    match job {
+        Job::Tidy => JobEnd::Exited(run_tidy(alloc, input, output, faults).0),
+        Job::Check => JobEnd::Exited(run_check(alloc, input, output, faults).0),
+        Job::Lookup(words) => answer_lookup(machine, &words, to, errors),
+        Job::Script { db: Some(db), .. } => script(machine, registries, db, lines, to, errors),
+        Job::Script { db: None, .. } => script(memory, registries, "", lines, to, errors),
+        Job::Import(words) => {
+            let progress = &mut Progress::new(rt, "importing", rt.stderr().is_terminal());
+            import(machine, registries, progress, &words, to, errors)
+        }
+        Job::Export { db } => run_export(rt, machine, db, output, errors),
+        Job::Serve(words) => serve(machine, registries, &words, to, errors),
+        Job::Migrate { db } => migrate(machine, db, to, errors),
+    }
 }
 
 fn run_export<M: Machine, O: Write, F: Output>(
@@ -60,16 +105,12 @@ fn run_export<M: Machine, O: Write, F: Output>(
     db: &str,
     output: &mut O,
     faults: &mut F,
-) -> u8 {
+) -> JobEnd {
     let is_told = rt.stderr().is_terminal() && !rt.stdout().is_terminal();
     let mut progress = Progress::new(rt, "exporting", is_told);
-    let output = Watched::new(Seen::new(output, Counted(&mut progress)));
+    let output = Seen::new(output, Counted(&mut progress));
     let Ok(buffer) = BufWriter::with_capacity(machine.alloc(), BUFFER, output) else {
-        return report_text_end(TextEnd::Memory, faults);
+        return JobEnd::Exited(report_text_end(TextEnd::Memory, faults));
     };
-    let (end, output) = export(machine, db, buffer, faults);
-    let is_unread = output.is_unread();
-    drop(output);
-    progress.clear();
-    report_end(end, is_unread, faults)
+    export(machine, db, buffer, faults).0
 }

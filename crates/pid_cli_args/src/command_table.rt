@@ -36,7 +36,7 @@ const OF_IMPORT: [Argument<'static>; 5] = [
 
 const OF_SERVE: [Argument<'static>; 4] = [DB, JOURNAL, Argument::Port, Argument::Connections];
 
-const COMMANDS: [Row<'static>; 8] = [
+pub(crate) const COMMANDS: [Row<'static>; 8] = [
     Row("check", Some("pciids check < FILE"), CHECK, &[]),
     Row("lookup", None, LOOKUP, &OF_LOOKUP),
     Row(

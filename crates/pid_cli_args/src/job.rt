@@ -21,6 +21,19 @@ pub enum Job<'a> {
     },
 }
 
+impl<'a> Job<'a> {
+    /// The folder of the journal, if the arguments name one.
+    pub fn journal(self) -> Option<&'a str> {
+        match self {
+            Job::Script { journal, .. } => journal,
+            Job::Import(words) => words.journal,
+            Job::Serve(words) => words.journal,
+            Job::Tidy | Job::Check | Job::Lookup(_) => None,
+            Job::Export { .. } | Job::Migrate { .. } => None,
+        }
+    }
+}
+
 /// The file and the values of a lookup. The values are not checked yet.
 #[derive(Clone, Copy)]
 pub struct LookupArgs<'a> {

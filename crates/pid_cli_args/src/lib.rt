@@ -3,6 +3,7 @@
 
 mod command_building;
 mod command_table;
+pub mod fault_lines;
 mod job;
 mod job_of_arguments;
 mod no_job;

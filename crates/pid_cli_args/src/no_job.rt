@@ -4,6 +4,7 @@ ghost use Rattle.clap.specs.Words.{kind_of};
 ghost use Rattle.clap.specs.declared.error.kind.ErrorKind.TheVariants.{DisplayHelp, DisplayVersion};
 ghost use Rattle.clap.specs.declared.error.kind.ErrorKind.TheVariants.{OutOfMemory};
 
+use crate::command_table::COMMANDS;
 use clap::Error;
 use clap::error::ErrorKind;
 use pid_file::{NO_JOB, Plain, TextEnd, report_failed, report_text_end};
@@ -26,7 +27,10 @@ pub fn report_no_job<O: Write, F: Write>(
         return report_text_end(TextEnd::Memory, &mut Plain::new(faults));
     }
     if error.use_stderr() {
-        let _ = write!(faults, "{error}{}", hint(words));
+        let written = write!(faults, "{error}");
+        if let (Ok(()), Some(usage)) = (written, usage_meant(words)) {
+            let _ = write!(faults, "To read a file, redirect standard input: {usage}\n");
+        }
         return NO_JOB;
     }
     match write!(output, "{error}") {
@@ -38,18 +42,16 @@ pub fn report_no_job<O: Write, F: Write>(
     }
 }
 
-// What to type instead. A common mistake is the name of a file as an argument.
-fn hint(words: &[String]) -> &'static str {
+// What to type instead. A common mistake is the name of a file as an argument. None where a command
+// reads no file from standard input, and after an unknown option.
+fn usage_meant(words: &[String]) -> Option<&'static str> {
     let word = match words.get(1) {
         Some(word) => word.as_str(),
         None => "",
     };
-    match word {
-        // No file was meant.
-        "lookup" | "script" | "import" | "export" | "serve" | "migrate" => "",
-        "check" => "To read a file, redirect standard input: pciids check < FILE\n",
-        "tidy" => "To read a file, redirect standard input: pciids tidy < FILE\n",
-        _ if matches!(word.as_bytes(), [b'-', ..]) => "",
-        _ => "To read a file, redirect standard input: pciids < FILE\n",
+    match COMMANDS.iter().find(|row| row.0 == word) {
+        Some(row) => row.1,
+        None if word.starts_with('-') => None,
+        None => Some("pciids < FILE"),
     }
 }

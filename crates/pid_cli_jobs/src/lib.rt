@@ -21,7 +21,6 @@ mod scripts;
 mod segment;
 mod serving;
 mod unopened;
-mod with_journal;
 
 pub use folder::HostFolder;
 pub use host::Host;
@@ -38,4 +37,3 @@ pub use scripts::script;
 pub use segment::HostSegment;
 pub use serving::serve;
 pub use unopened::{Unopened, report_unopened};
-pub use with_journal::run_on_registry;

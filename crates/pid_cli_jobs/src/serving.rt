@@ -11,6 +11,7 @@ use crate::machine::{Databases, Machine};
 use crate::registries::Registries;
 use crate::unopened::report_unopened;
 use pid_cli_args::ServeArgs;
+use pid_cli_args::fault_lines::SOCKET_FAILED;
 use pid_file::FAILED;
 use pid_http::{Routes, serve_with};
 use pid_http_stream::Served;
@@ -67,7 +68,7 @@ impl<D: Databases, G: Registries<D>> StreamServer for Server<'_, '_, '_, D, G> {
 fn report_socket<F: Output>(faults: &mut F) -> JobEnd
     ensures { Reports socket_line (use_of F.Output faults.old faults.new) result }
 {
-    let _ = write_all(faults, b"socket: failed\n");
+    let _ = write_all(faults, SOCKET_FAILED.as_bytes());
     JobEnd::Exited(FAILED)
 }
 

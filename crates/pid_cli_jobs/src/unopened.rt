@@ -6,6 +6,9 @@ ghost use Rattle.pid_cli_jobs.specs.Lines.{Reports, unopened_line, unopened_word
 
 use crate::job_end::JobEnd;
 use crate::lines::write_count;
+use pid_cli_args::fault_lines::{
+    JOURNAL_ANOTHER, JOURNAL_FAILED, JOURNAL_MISSING, OPEN_DAMAGED, OPEN_STORE,
+};
 use pid_file::FAILED;
 use pid_ident::{Output, WriteFault, write_all};
 
@@ -32,12 +35,12 @@ fn unopened_reason(fault: Unopened) -> &'static str
 {
     match fault {
         Unopened::Memory => "open: Memory\n",
-        Unopened::Store => "open: Store\n",
-        Unopened::Damaged => "open: Damaged\n",
+        Unopened::Store => OPEN_STORE,
+        Unopened::Damaged => OPEN_DAMAGED,
         Unopened::NewerSchema(_) => "open: NewerSchema ",
-        Unopened::AnotherJournal => "journal: Another\n",
-        Unopened::SegmentsMissing => "journal: Missing\n",
-        Unopened::JournalFailed => "journal: failed\n",
+        Unopened::AnotherJournal => JOURNAL_ANOTHER,
+        Unopened::SegmentsMissing => JOURNAL_MISSING,
+        Unopened::JournalFailed => JOURNAL_FAILED,
     }
 }
 

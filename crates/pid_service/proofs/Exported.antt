@@ -7,7 +7,7 @@ use Rattle.pid_tables.specs.declared.lists.walk.EachEnd.TheVariants as ends
 use Rattle.pid_service_laws.specs.declared.faults.ExportFault.TheVariants.{Refused, Write}
 use Rattle.pid_service.specs.Histories.{IsMemoryOrStore}
 use Rattle.pid_service.specs.Registries.{HasCleanDisk, OnlyReads}
-use Rattle.pid_service.proofs.Words.{Agrees, EachEnd, Entries, ExportFault, ExportsTree, Ghosts, Held, History, HoldsAccounts, HoldsChanges, HoldsNumbers, HoldsPending, HoldsText, HoldsTop, is_live, IsCausedAs, IsCausedEnd, IsToldAs, Item, items_of, kept_by, kept_views, KeptChanges, KeptText, MayGive, name_at, print, Refusal, refusal_for, Registry, Searches, SendsFront, Shows, text_of_items, tree_of, views_of, WriteFault, WritesItems}
+use Rattle.pid_service.proofs.Words.{Agrees, EachEnd, Entries, ExportFault, ExportsTree, Ghosts, History, HoldsAccounts, HoldsChanges, HoldsNumbers, HoldsPending, HoldsText, HoldsTop, is_live, IsCausedAs, IsCausedEnd, IsToldAs, Item, items_of, kept_by, kept_views, KeptChanges, KeptText, MayGive, name_at, print, Refusal, refusal_for, Registry, Searches, SendsFront, Shows, text_of_items, tree_of, views_of, WriteFault, WritesItems}
 use Rattle.pid_service.proofs.Causes.{caused_as}
 use Rattle.pid_service.proofs.Keeping.{true_not}
 
@@ -29,12 +29,12 @@ pub same_write : (f told : WriteFault) → ◌≡◌ {A = Result (Unit {0}) Expo
 same_write f told is = cc
 
 -- a fault of the tables has its cause
-pub told_cause : {S : Type 0} (store : Ghosts S) (old new : Held S) (end : EachEnd WriteFault) (told : ExportFault) (e : Refusal) → IsToldAs end told → told ≡ Refused e
-    → IsCausedEnd store old new end → IsCausedAs store old new e
-told_cause store old new (ends.Tables fault) told e (x, is, bad, of) asked caused =
+pub told_cause : {S : Type 0} (database : Ghosts S) (old new : S) (end : EachEnd WriteFault) (told : ExportFault) (e : Refusal) → IsToldAs end told → told ≡ Refused e
+    → IsCausedEnd database.state old new end → IsCausedAs database.state old new e
+told_cause database old new (ends.Tables fault) told e (x, is, bad, of) asked caused =
     let same : e ≡ refusal_for fault = refuses e x (sym asked ∙ is) ∙ of in
-    subst (λ (y : Refusal). IsCausedAs store old new y) (sym same) (caused_as store old new fault caused)
-told_cause store old new (ends.Fault fault) told e is asked caused = absurd (let other = sym asked ∙ is in let no : ⊥ = cc in no)
+    subst (λ (y : Refusal). IsCausedAs database.state old new y) (sym same) (caused_as database old new fault caused)
+told_cause database old new (ends.Fault fault) told e is asked caused = absurd (let other = sym asked ∙ is in let no : ⊥ = cc in no)
 
 -- what a live registry may give
 pub told_gives : (end : EachEnd WriteFault) (told : ExportFault) (e : Refusal) (live : Bool) → live ≡ true → IsToldAs end told → told ≡ Refused e → MayGive live e
@@ -51,14 +51,14 @@ told_writes r (ends.Fault fault) told f is asked was = let both = sym is ∙ ask
 pub told_by : {X : Type 0} (r : Result X ExportFault) (told : ExportFault) (e : Refusal) → r ≡ Err told → r ≡ Err (Refused e) → told ≡ Refused e
 told_by r told e is asked = let same = sym is ∙ asked in cc
 
-module _ {S : Type 0} (store : Ghosts S) where
+module _ {S : Type 0} (database : Ghosts S) where
   -- a text that is kept is that of the tree
-  pub text_told : (r : Registry S store) (h : History) (text : KeptText) → (kept_by r).text ≡ Some text → HasCleanDisk store r → Shows store r h → text_of_items (items_of h) ≡ print (tree_of h) → text.bytes.items ≡ print (tree_of h)
+  pub text_told : (r : Registry S database) (h : History) (text : KeptText) → (kept_by r).text ≡ Some text → HasCleanDisk database r → Shows database r h → text_of_items (items_of h) ≡ print (tree_of h) → text.bytes.items ≡ print (tree_of h)
   text_told r h text is clean shows same = (subst (λ (t : Option KeptText). HoldsText t (items_of h)) is (shows.kept clean).text).text ∙ same
 
   -- a registry that has read keeps a text that is right, and shows what it did
-  pub text_kept : (old new : Registry S store) (h : History) → Shows store old h → is_live new ≡ is_live old → (kept_by new).names ≡ (kept_by old).names → (kept_views new).top ≡ (kept_views old).top → (kept_views new).changes ≡ (kept_views old).changes → (kept_views new).pending ≡ (kept_views old).pending → (kept_views new).numbers ≡ (kept_views old).numbers → (kept_views new).accounts ≡ (kept_views old).accounts → OnlyReads store old new
-      → HoldsText (kept_by new).text (items_of h) → Shows store new h
+  pub text_kept : (old new : Registry S database) (h : History) → Shows database old h → is_live new ≡ is_live old → (kept_by new).names ≡ (kept_by old).names → (kept_views new).top ≡ (kept_views old).top → (kept_views new).changes ≡ (kept_views old).changes → (kept_views new).pending ≡ (kept_views old).pending → (kept_views new).numbers ≡ (kept_views old).numbers → (kept_views new).accounts ≡ (kept_views old).accounts → OnlyReads database old new
+      → HoldsText (kept_by new).text (items_of h) → Shows database new h
   text_kept old new h shows same names tops changes waiting numbers many reads text = record {
     lives = same ∙ shows.lives;
     history = shows.history;

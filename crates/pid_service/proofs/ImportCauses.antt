@@ -5,7 +5,7 @@ use Rattle.pid_tables.specs.declared.put_file.Stop.{Stop}
 use Rattle.pid_tables.specs.declared.put_file.Stop.TheVariants as stops
 use Rattle.pid_service_laws.specs.declared.faults.ImportEnd.TheVariants.{Refused}
 use Rattle.pid_service.specs.Histories.{IsMemoryOrStore}
-use Rattle.pid_service.proofs.Words.{answer, Answered, AnswersPast, Asked, asked, BadText, Body, Command, DependsOnFile, EarlyIsCaused, EndsImport, Facts, FaultStays, Ghosts, Good, Held, History, import_of, ImportEnd, is_outcome, IsCausedAs, IsCausedRefusal, IsOpen, IsPlain, judge, OfRefusal, Reading, Refusal, RefusesImport, Reply, state, Views, views_of, WaitsForFile}
+use Rattle.pid_service.proofs.Words.{answer, Answered, AnswersPast, Asked, asked, BadText, Body, Command, DependsOnFile, EarlyIsCaused, EndsImport, Facts, FaultStays, Ghosts, Good, History, import_of, ImportEnd, is_outcome, IsCausedAs, IsCausedRefusal, IsOpen, IsPlain, judge, OfRefusal, Reading, Refusal, RefusesImport, Reply, Views, views_of, WaitsForFile}
 use Rattle.pid_service.proofs.Lasting.{no_outcome}
 
 -- every judgement is an outcome
@@ -36,32 +36,32 @@ refusal_short : AreOutcomes → (h : History) (c : Asked) (e : Refusal) → Refu
 refusal_short law h c e (inl told) fault = absurd (never_judged law (views_of h) c e fault told.0)
 refusal_short law h c e (inr is) fault = is
 
-module _ {S : Type 0} (store : Ghosts S) where
-  pub refused_stays : AreOutcomes → (conn : Held S) (live : Bool) (h : History) (c : Asked) (stop : Stop) (e : Refusal) → stop ≡ stops.Refused e → live ≡ true → EndsImport store conn (Err stop) h c → FaultStays live e
+module _ {S : Type 0} (database : Ghosts S) where
+  pub refused_stays : AreOutcomes → (conn : S) (live : Bool) (h : History) (c : Asked) (stop : Stop) (e : Refusal) → stop ≡ stops.Refused e → live ≡ true → EndsImport database.state conn (Err stop) h c → FaultStays live e
   refused_stays law conn live h c stop e is on ends fault =
-      let so : EndsImport store conn (Err (stops.Refused e)) h c = subst (λ (s : Stop). EndsImport store conn (Err s) h c) is ends in
+      let so : EndsImport database.state conn (Err (stops.Refused e)) h c = subst (λ (s : Stop). EndsImport database.state conn (Err s) h c) is ends in
       inl (on, refusal_short law h c e so.1 fault)
 
-  module _ (old new : Held S) (live : Bool) where
+  module _ (old new : S) (live : Bool) where
     abbrev pub Faults : History → Asked → Refusal → Type 0
-    Faults h c e = IsMemoryOrStore e → ((live ≡ true) × IsCausedAs store old new e) ⊎ ((live ≡ false) × DependsOnFile h c)
+    Faults h c e = IsMemoryOrStore e → ((live ≡ true) × IsCausedAs database.state old new e) ⊎ ((live ≡ false) × DependsOnFile h c)
 
-    of_memory : (e : Refusal) → e ≡ Memory → IsCausedAs store old new e
-    of_memory e is = subst (λ (x : Refusal). IsCausedAs store old new x) (sym is) tt
+    of_memory : (e : Refusal) → e ≡ Memory → IsCausedAs database.state old new e
+    of_memory e is = subst (λ (x : Refusal). IsCausedAs database.state old new x) (sym is) tt
 
-    as_cause : (h : History) (command : Command) (e : Refusal) → EarlyIsCaused store old new h command (Answered (Err e)) → AreOutcomes → IsMemoryOrStore e → IsCausedAs store old new e
+    as_cause : (h : History) (command : Command) (e : Refusal) → EarlyIsCaused database.state old new h command (Answered (Err e)) → AreOutcomes → IsMemoryOrStore e → IsCausedAs database.state old new e
     as_cause h command e (inl settled) law fault =
         absurd (never_judged law (views_of h) (import_of command.account command.key (Good [])) e fault (settled (Good []) (λ bad. let no : ⊥ = cc in no)).0)
     as_cause h command e (inr cause) law (inl is) = of_memory e is
     as_cause h command e (inr cause) law (inr is) =
-        subst (λ (x : Refusal). IsCausedAs store old new x) (sym is) (subst (λ (x : Refusal). IsCausedRefusal (state store old) (state store new) x) is cause)
+        subst (λ (x : Refusal). IsCausedAs database.state old new x) (sym is) (subst (λ (x : Refusal). IsCausedRefusal (database.state old) (database.state new) x) is cause)
 
-    pub early_faults : AreOutcomes → live ≡ true → (h : History) (command : Command) (reading : Reading) (given : Result Reply Refusal) → EarlyIsCaused store old new h command (Answered given) → IfErr given (Faults h (asked command reading))
+    pub early_faults : AreOutcomes → live ≡ true → (h : History) (command : Command) (reading : Reading) (given : Result Reply Refusal) → EarlyIsCaused database.state old new h command (Answered given) → IfErr given (Faults h (asked command reading))
     early_faults law on h command reading (Ok reply) told = tt
     early_faults law on h command reading (Err e) told = λ fault. inl (on, as_cause h command e told law fault)
 
     open_or : (h : History) (command : Command) (reading : Reading) (f : Facts) (e : Refusal) → IsOpen h command f → ((live ≡ true) × (e ≡ Memory)) ⊎ (live ≡ false)
-        → ((live ≡ true) × IsCausedAs store old new e) ⊎ ((live ≡ false) × DependsOnFile h (asked command reading))
+        → ((live ≡ true) × IsCausedAs database.state old new e) ⊎ ((live ≡ false) × DependsOnFile h (asked command reading))
     open_or h command reading f e open_ (inl short) = inl (short.0, of_memory e short.1)
     open_or h command reading f e open_ (inr off) = inr (off, subst WaitsForFile open_.facts open_.waits)
 

@@ -24,19 +24,19 @@ failed_past (Err (Refused e)) text (inl past) = let is : ◌≡◌ {A = Result R
 failed_past (Err (Refused e)) text (inr past) = inl (ap (λ (x : Refusal). Err (Refused x)) past.0)
 failed_past (Err Body) text past = inr refl
 
-module _ {S : Type 0} (store : Ghosts S) where
+module _ {S : Type 0} (database : Ghosts S) where
   -- the laws of commands and of questions
   abbrev pub ObeysLaw : Type 0
-  ObeysLaw = (old new : Registry S store) (c : Asked) (result : Result Reply Refusal) → (HasCleanDisk store new → HasCleanDisk store old) → (is_live old ≡ false → (result ≡ Err Failed) × (new ≡ old))
-      → (HasCleanDisk store new → (h : History) → Shows store old h → Obeys store result new h c) → Does (showing store) old (obeyed c result (is_live new)) new
+  ObeysLaw = (old new : Registry S database) (c : Asked) (result : Result Reply Refusal) → (HasCleanDisk database new → HasCleanDisk database old) → (is_live old ≡ false → (result ≡ Err Failed) × (new ≡ old))
+      → (HasCleanDisk database new → (h : History) → Shows database old h → Obeys database result new h c) → Does (showing database) old (obeyed c result (is_live new)) new
 
   abbrev pub LooksLaw : Type 0
-  LooksLaw = (old new : Registry S store) → (HasCleanDisk store new → HasCleanDisk store old) → (is_live old ≡ false → new ≡ old)
-      → (HasCleanDisk store new → (h : History) → Shows store old h → Shows store new h) → Does (showing store) old nothing_sent new
+  LooksLaw = (old new : Registry S database) → (HasCleanDisk database new → HasCleanDisk database old) → (is_live old ≡ false → new ≡ old)
+      → (HasCleanDisk database new → (h : History) → Shows database old h → Shows database new h) → Does (showing database) old nothing_sent new
 
-  pub import_sessions : ObeysLaw → LooksLaw → (old new : Registry S store) (c : Asked) (result : Result Reply ImportEnd) → (HasCleanDisk store new → HasCleanDisk store old)
-      → (is_live old ≡ false → IsOfFailed result × (new ≡ old)) → (HasCleanDisk store new → (h : History) → Shows store old h → ObeysImport store result new h c)
-      → Does (showing store) old (import_sent c result (is_live new)) new
+  pub import_sessions : ObeysLaw → LooksLaw → (old new : Registry S database) (c : Asked) (result : Result Reply ImportEnd) → (HasCleanDisk database new → HasCleanDisk database old)
+      → (is_live old ≡ false → IsOfFailed result × (new ≡ old)) → (HasCleanDisk database new → (h : History) → Shows database old h → ObeysImport database result new h c)
+      → Does (showing database) old (import_sent c result (is_live new)) new
   import_sessions obeys looks old new c (Ok reply) clean failed told = obeys old new c (Ok reply) clean (λ off. let is = failed off in (never_ok reply (Ok reply) is.0, is.1)) told
   import_sessions obeys looks old new c (Err (Refused e)) clean failed told = obeys old new c (Err e) clean (λ off. let is = failed off in (then_failed e (Err e) is.0 refl, is.1)) told
   import_sessions obeys looks old new c (Err Body) clean failed told = looks old new clean (λ off. (failed off).1) told

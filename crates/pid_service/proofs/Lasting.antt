@@ -64,8 +64,8 @@ pub carried : (r : Result Reply Refusal) (before after : Bool) → MatchResult r
 carried (Ok reply) before after same = same
 carried (Err e) before after (fault, off) = (fault_alive e fault, inl fault)
 
-module _ {S : Type 0} (store : Ghosts S) (old new : Registry S store) where
-  pub lasting : (r : Result Reply Refusal) → StaysLive r (is_live old) (is_live new) → KeepsLimit store old new → Lasts store old new r
+module _ {S : Type 0} (database : Ghosts S) (old new : Registry S database) where
+  pub lasting : (r : Result Reply Refusal) → StaysLive r (is_live old) (is_live new) → KeepsLimit database old new → Lasts database old new r
   lasting r held limit = record {
     alive = λ on. alive_so r (is_live old) (is_live new) held;
     stays = stays_live r (is_live old) (is_live new) held;
@@ -73,8 +73,8 @@ module _ {S : Type 0} (store : Ghosts S) (old new : Registry S store) where
     limit = limit;
   }
 
-  pub end_lasting : (asks : Reading → Asked) (r : Result Reply ImportEnd) → EndStaysLive r (is_live old) (is_live new) → KeepsLimit store old new
-      → OverHistory store old new (λ h. (reading : Reading) → IfErr r (OfRefusal (ImportFaults store old new h (asks reading)))) → EndLasts store old new asks r
+  pub end_lasting : (asks : Reading → Asked) (r : Result Reply ImportEnd) → EndStaysLive r (is_live old) (is_live new) → KeepsLimit database old new
+      → OverHistory database old new (λ h. (reading : Reading) → IfErr r (OfRefusal (ImportFaults database old new h (asks reading)))) → EndLasts database old new asks r
   end_lasting asks r held limit caused = record {
     alive = λ on. end_alive r (is_live old) (is_live new) held;
     stays = end_stays r (is_live old) (is_live new) held;

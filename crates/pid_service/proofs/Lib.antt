@@ -3,7 +3,6 @@ pub mod Leading
 pub mod Reached
 pub mod Judged
 pub mod Keeping
-pub mod WriteLemmas
 pub mod ReadFiles
 pub mod Obeyed
 pub mod Opened

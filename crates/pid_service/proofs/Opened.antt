@@ -10,7 +10,7 @@ use Rattle.pid_tables.proofs.AtOnceLemmas.{reads_back}
 use Rattle.pid_tables.specs.ShowsOrBlank.{ShowsOrBlank}
 use Rattle.pid_tables.proofs.OfRows.OnlyReading.{reads_then, rests_in_still}
 use Rattle.pid_tables.proofs.StandLemmas.{only_store_explains, seen_still}
-use Rattle.pid_service.proofs.Words.{Already, Brings, Created, Database, Explains, ExplainsNow, ExplainsOpening, Fails, FindsVersion, Ghosts, HasSomeTable, HasWritten, Held, History, IsCommitted, IsFound, IsOneStep, IsTakenBack, KeepsTables, KeepsViews, Left, MayHaveMade, Moved, new_history, One, OpensAtOnce, Raised, Refuses, RestsBare, RestsIn, state, Stays, Step, Survives, TableFault, Trees, Two, views_of}
+use Rattle.pid_service.proofs.Words.{Already, Brings, Created, Database, Explains, ExplainsNow, ExplainsOpening, Fails, FindsVersion, Ghosts, HasSomeTable, HasWritten, History, IsCommitted, IsFound, IsOneStep, IsTakenBack, KeepsTables, KeepsViews, Left, MayHaveMade, Moved, new_history, One, OpensAtOnce, Raised, Refuses, RestsBare, RestsIn, Stays, Step, Survives, TableFault, Trees, Two, views_of}
 
 -- what a step tells where the tables were not there, were in schema 1, and were in the schema of today
 pub record Steps (s : State) (h : History) (New : Type 0) (Old : Type 0) (Today : Type 0) : Type 0 where
@@ -98,20 +98,20 @@ pub made_then_reads : (IsMade : Trees → Type 0) (a b c : State) → Survives a
 made_then_reads IsMade a b c made reads = survives_then a b c IsMade (λ _. ⊥) IsMade (λ clean db is. is) (λ clean db none. absurd none) made reads.survives
 
 -- what was committed is there after reads
-pub committed_then_reads : {S X : Type 0} (store : Ghosts S) (IsMade : Trees → Type 0) (mid new : Held S) (r : Result X TableFault) → IsCommitted IsMade (state store mid) → clauses.OnlyReads store mid new
-    → (IsTrue (clauses.is_open store new) → clauses.seen store new ≡ clauses.seen store mid) → clauses.HasCleanDisk store new → OnOk r (HasWritten store IsMade new)
-committed_then_reads store IsMade mid new (Err e) made reads same clean = tt
-committed_then_reads store IsMade mid new (Ok x) made reads same clean = record {
+pub committed_then_reads : {S X : Type 0} (database : Ghosts S) (IsMade : Trees → Type 0) (mid new : S) (r : Result X TableFault) → IsCommitted IsMade (database.state mid) → clauses.OnlyReads database.state mid new
+    → (IsTrue (clauses.is_open database.state new) → clauses.seen database.state new ≡ clauses.seen database.state mid) → clauses.HasCleanDisk database.state new → OnOk r (HasWritten database.state IsMade new)
+committed_then_reads database IsMade mid new (Err e) made reads same clean = tt
+committed_then_reads database IsMade mid new (Ok x) made reads same clean = record {
   sees = λ opened. subst (λ (d : Database). IsMade d.trees) (sym (same opened)) made.sees;
   leaves = λ db may. elim (reads.survives.crash clean db may) [ inl before ↦ subst IsMade (sym (made.leaves db before)) made.sees | inr none ↦ absurd none ];
 }
 
 -- what was moved and committed is there after reads, or nothing was done
-pub moved_then_reads : {S X : Type 0} (store : Ghosts S) (IsMoved : Trees → Type 0) (old mid new : Held S) (r : Result X TableFault) (step : Step) → tables.Brings store old step mid → (step ≡ Moved → IsCommitted IsMoved (state store mid))
-    → clauses.OnlyReads store mid new → (IsTrue (clauses.is_open store new) → clauses.seen store new ≡ clauses.seen store mid) → clauses.HasCleanDisk store new → OnOk r (HasWritten store IsMoved new ⊎ clauses.OnlyReads store old new)
-moved_then_reads store IsMoved old mid new (Err e) step brings moved reads same clean = tt
-moved_then_reads store IsMoved old mid new (Ok x) step (Left is before) moved reads same clean = inr (reads_then (state store old) (state store mid) (state store new) before reads)
-moved_then_reads store IsMoved old mid new (Ok x) step (Raised is found) moved reads same clean = inl (committed_then_reads store IsMoved mid new (Ok x) (moved is) reads same clean)
+pub moved_then_reads : {S X : Type 0} (database : Ghosts S) (IsMoved : Trees → Type 0) (old mid new : S) (r : Result X TableFault) (step : Step) → tables.Brings database.state old step mid → (step ≡ Moved → IsCommitted IsMoved (database.state mid))
+    → clauses.OnlyReads database.state mid new → (IsTrue (clauses.is_open database.state new) → clauses.seen database.state new ≡ clauses.seen database.state mid) → clauses.HasCleanDisk database.state new → OnOk r (HasWritten database.state IsMoved new ⊎ clauses.OnlyReads database.state old new)
+moved_then_reads database IsMoved old mid new (Err e) step brings moved reads same clean = tt
+moved_then_reads database IsMoved old mid new (Ok x) step (Left is before) moved reads same clean = inr (reads_then (database.state old) (database.state mid) (database.state new) before reads)
+moved_then_reads database IsMoved old mid new (Ok x) step (Raised is found) moved reads same clean = inl (committed_then_reads database IsMoved mid new (Ok x) (moved is) reads same clean)
 
 -- what is taken back is seen as before
 pub seen_back : (old new : State) → (IsTrue old.is_open → old.now ≡ old.committed) → IsTakenBack old new → IsTrue new.is_open → IsTrue old.is_open × (new.now ≡ old.now)
@@ -133,24 +133,24 @@ made_found : (old mid : State) (step : Step) → (step ≡ Already → ⊥) → 
 made_found old mid step made (Left is reads) = absurd (made is)
 made_found old mid step made (Raised is found) = found
 
-module _ {S : Type 0} (store : Ghosts S) where
-  pub still_views : (old mid new : Held S) → clauses.OnlyReads store mid new → KeepsViews store old mid → KeepsViews store old new
-  still_views old mid new reads kept version v rest = rests_in_still (state store mid) (state store new) v reads (kept version v rest)
+module _ {S : Type 0} (database : Ghosts S) where
+  pub still_views : (old mid new : S) → clauses.OnlyReads database.state mid new → KeepsViews database.state old mid → KeepsViews database.state old new
+  still_views old mid new reads kept version v rest = rests_in_still (database.state mid) (database.state new) v reads (kept version v rest)
 
-  module _ (old mid new : Held S) (reads : clauses.OnlyReads store mid new) (kept : clauses.HasCleanDisk store mid → KeepsViews store old mid) where
-    refused_then : (step : Step) (e : TableFault) → (step ≡ Already → ⊥) → (clauses.HasCleanDisk store mid → HasSomeTable (clauses.seen store old).schema → tables.Brings store old step mid)
-        → (clauses.HasCleanDisk store new → ExplainsNow store new e) → MayHaveMade store old e new
+  module _ (old mid new : S) (reads : clauses.OnlyReads database.state mid new) (kept : clauses.HasCleanDisk database.state mid → KeepsViews database.state old mid) where
+    refused_then : (step : Step) (e : TableFault) → (step ≡ Already → ⊥) → (clauses.HasCleanDisk database.state mid → HasSomeTable (clauses.seen database.state old).schema → tables.Brings database.state old step mid)
+        → (clauses.HasCleanDisk database.state new → ExplainsNow database.state new e) → MayHaveMade database.state old e new
     refused_then step e made brings told = record {
-      found = λ clean some. made_found (state store old) (state store mid) step made (brings (reads.clean clean) some);
+      found = λ clean some. made_found (database.state old) (database.state mid) step made (brings (reads.clean clean) some);
       kept = λ clean. still_views old mid new reads (kept (reads.clean clean));
       told = told;
     }
 
-    pub back_after : {X : Type 0} (step : Step) (r : Result X TableFault) → (step ≡ Already → clauses.OnlyReads store old mid)
-        → (clauses.HasCleanDisk store mid → HasSomeTable (clauses.seen store old).schema → tables.Brings store old step mid)
-        → (clauses.HasCleanDisk store new → IfErr r (λ e. ExplainsNow store new e)) → IfErr r (λ e. tables.IsTakenBack store old new ⊎ MayHaveMade store old e new)
+    pub back_after : {X : Type 0} (step : Step) (r : Result X TableFault) → (step ≡ Already → clauses.OnlyReads database.state old mid)
+        → (clauses.HasCleanDisk database.state mid → HasSomeTable (clauses.seen database.state old).schema → tables.Brings database.state old step mid)
+        → (clauses.HasCleanDisk database.state new → IfErr r (λ e. ExplainsNow database.state new e)) → IfErr r (λ e. tables.IsTakenBack database.state old new ⊎ MayHaveMade database.state old e new)
     back_after step (Ok x) already brings told = tt
-    back_after Already (Err e) already brings told = inl (reads_back (state store old) (state store new) (reads_then (state store old) (state store mid) (state store new) (already refl) reads))
+    back_after Already (Err e) already brings told = inl (reads_back (database.state old) (database.state new) (reads_then (database.state old) (database.state mid) (database.state new) (already refl) reads))
     back_after Created (Err e) already brings told = inr (refused_then Created e (λ is. let no : ⊥ = cc in no) brings told)
     back_after Moved (Err e) already brings told = inr (refused_then Moved e (λ is. let no : ⊥ = cc in no) brings told)
 
@@ -163,12 +163,12 @@ kept_ok (Ok x) p = p
 kept_ok (Err e) p = tt
 
 -- a step of the opening, in the records of its contract
-module _ {S X : Type 0} {store : Ghosts S} {r : Result X TableFault} {a a' b b' : Held S} (start : a ≡ a') (end : b' ≡ b) where
-  pub at_once_of : OpensAtOnce store a b r → OpensAtOnce store a' b' r
-  at_once_of p = moved (λ x y. OpensAtOnce store x y r) start end p
+module _ {S X : Type 0} {database : Ghosts S} {r : Result X TableFault} {a a' b b' : S} (start : a ≡ a') (end : b' ≡ b) where
+  pub at_once_of : OpensAtOnce database.state a b r → OpensAtOnce database.state a' b' r
+  at_once_of p = moved (λ x y. OpensAtOnce database.state x y r) start end p
 
-  pub explains_of : ExplainsOpening store a b r → ExplainsOpening store a' b' r
-  explains_of p = moved (λ x y. ExplainsOpening store x y r) start end p
+  pub explains_of : ExplainsOpening database.state a b r → ExplainsOpening database.state a' b' r
+  explains_of p = moved (λ x y. ExplainsOpening database.state x y r) start end p
 
-  pub kept_of : KeepsTables store a b r → KeepsTables store a' b' r
-  kept_of p = moved (λ x y. KeepsTables store x y r) start end p
+  pub kept_of : KeepsTables database.state a b r → KeepsTables database.state a' b' r
+  kept_of p = moved (λ x y. KeepsTables database.state x y r) start end p

@@ -1,6 +1,5 @@
 -- What each opening shows is after a prefix of the commands of each session.
 use Rattle.std.proofs.Common.{sym, subst, ◌∷◌, ◌++◌, []}
-use Rattle.sqlite_trees.specs.declared.store.Store.{Ghosts}
 use Rattle.pid_reader.proofs.ReadBack.{read_back as reads_back}
 use Rattle.pid_moderation.proofs.KeysOnce.{at_most_once}
 use Rattle.pid_moderation.proofs.RevisionLemmas.{mark_stays}
@@ -8,7 +7,7 @@ use Rattle.pid_service_laws.proofs.Calling.{session_more, no_session}
 use Rattle.pid_service.specs.Histories.{showing}
 use Rattle.pid_service.specs.SessionLaws.{ReopeningsShowPrefixes}
 use Rattle.pid_service.proofs.Reached.{reached_sound}
-use Rattle.pid_service.proofs.Words.{IsAfterPrefixes, tree_of}
+use Rattle.pid_service.proofs.Words.{Ghosts, IsAfterPrefixes, tree_of}
 
 module _ {S T : Type 0} (earlier : Ghosts S) (later : Ghosts T) where
   pub prefixes_shown : ReopeningsShowPrefixes earlier later

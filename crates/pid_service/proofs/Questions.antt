@@ -15,7 +15,7 @@ use Rattle.pid_tables.specs.Rows.Clauses as clauses
 use Rattle.pid_tables.specs.declared.rows.fault.TableFault.TheVariants as faults
 use Rattle.pid_service.specs.Histories.{IsMemoryOrStore}
 use Rattle.pid_service.specs.Registries.{HasCleanDisk, OnlyReads}
-use Rattle.pid_service.proofs.Words.{answered_as, changed_after, connection, Failed, Finds, Ghosts, Held, History, is_later, is_live, IsCausedAs, IsReached, IsReadable, Items, kept_views, MayGive, numbered_in, OnlyAsked, Refusal, refusal_for, Registry, Shows, state, TableFault, Views, views_of}
+use Rattle.pid_service.proofs.Words.{answered_as, changed_after, connection, Failed, Finds, Ghosts, History, is_later, is_live, IsCausedAs, IsReached, IsReadable, Items, kept_views, MayGive, numbered_in, OnlyAsked, Refusal, refusal_for, Registry, Shows, TableFault, Views, views_of}
 use Rattle.pid_service.proofs.Causes.{caused_as, caused_by}
 use Rattle.pid_service.proofs.Keeping.{true_not}
 use Rattle.pid_service.proofs.Obeyed.{only_read}
@@ -55,9 +55,9 @@ abbrev refused_of : {X Y : Type 0} → Result X Refusal → Result Y Refusal
 refused_of (Ok x) = Err Failed
 refused_of (Err e) = Err e
 
-module _ {S : Type 0} (store : Ghosts S) where
+module _ {S : Type 0} (database : Ghosts S) where
   -- a question that another one is refused by
-  pub answers_refused : {X Y : Type 0} (old new : Registry S store) (e : Refusal) (Told : History → X → Type 0) (Says : History → Y → Type 0) → Finds store old new (Err e) Told → Finds store old new (Err e) Says
+  pub answers_refused : {X Y : Type 0} (old new : Registry S database) (e : Refusal) (Told : History → X → Type 0) (Says : History → Y → Type 0) → Finds database old new (Err e) Told → Finds database old new (Err e) Says
   answers_refused old new e Told Says refused = record {
     failed = λ off. let f = refused.failed off in (ap refused_of f.0, f.1);
     fault = refused.fault;
@@ -68,153 +68,153 @@ module _ {S : Type 0} (store : Ghosts S) where
   }
 
   -- a live one, with one question more
-  pub asked_then : (start old new : Registry S store) → is_live old ≡ true → is_live new ≡ is_live old → OnlyReads store old new → OnlyAsked store start old → OnlyAsked store start new
+  pub asked_then : (start old new : Registry S database) → is_live old ≡ true → is_live new ≡ is_live old → OnlyReads database old new → OnlyAsked database start old → OnlyAsked database start new
   asked_then start old new on same reads asked = record {
     lives = same ∙ asked.lives;
-    rests = reads_then (state store (connection start)) (state store (connection old)) (state store (connection new)) asked.rests reads;
+    rests = reads_then (database.state (connection start)) (database.state (connection old)) (database.state (connection new)) asked.rests reads;
     failed = λ off. absurd (let both : true ≡ false = sym on ∙ (asked.lives ∙ off) in let no : ⊥ = cc in no);
   }
 
   -- what the tables answer behind a read, they answer from before it on
-  told_since : {X : Type 0} (r : Result X TableFault) (old mid new : Held S) (Told : X → Type 0) (Readable : Type 0) → clauses.OnlyReads store old mid → clauses.OnlyReads store mid new → clauses.HasCleanDisk store new
-      → MatchResult r Told (λ fault. Readable → clauses.IsCaused store mid new fault) → MatchResult r Told (λ fault. Readable → clauses.IsCaused store old new fault)
+  told_since : {X : Type 0} (r : Result X TableFault) (old mid new : S) (Told : X → Type 0) (Readable : Type 0) → clauses.OnlyReads database.state old mid → clauses.OnlyReads database.state mid new → clauses.HasCleanDisk database.state new
+      → MatchResult r Told (λ fault. Readable → clauses.IsCaused database.state mid new fault) → MatchResult r Told (λ fault. Readable → clauses.IsCaused database.state old new fault)
   told_since (Ok x) old mid new Told Readable first second clean told = told
-  told_since (Err fault) old mid new Told Readable first second clean told = λ readable. caused_later (state store old) (state store mid) (state store new) (λ _. ⊥) fault first.survives second.survives.counts (second.clean clean) (told readable)
+  told_since (Err fault) old mid new Told Readable first second clean told = λ readable. caused_later (database.state old) (database.state mid) (database.state new) (λ _. ⊥) fault first.survives second.survives.counts (second.clean clean) (told readable)
 
-  pub reads_after : {X : Type 0} (old mid new : Held S) (r : Result X TableFault) (Told : Views → X → Type 0) → clauses.OnlyReads store old mid → clauses.Reads store mid new r Told → clauses.Reads store old new r Told
+  pub reads_after : {X : Type 0} (old mid new : S) (r : Result X TableFault) (Told : Views → X → Type 0) → clauses.OnlyReads database.state old mid → clauses.Reads database.state mid new r Told → clauses.Reads database.state old new r Told
   reads_after old mid new r Told first read = record {
-    rests = reads_then (state store old) (state store mid) (state store new) first read.rests;
+    rests = reads_then (database.state old) (database.state mid) (database.state new) first read.rests;
     told = λ clean v rest. told_since r old mid new (Told v) (IsReadable v) first read.rests clean (read.told clean v (first.kept v rest));
   }
 
   -- a fault that is passed on behind a read
-  pub faults_after : {X : Type 0} (old mid new : Held S) (e : TableFault) (r : Result X TableFault) (Says : Views → X → Type 0) → clauses.OnlyReads store old mid → clauses.OnlyReads store mid new
-      → (clauses.HasCleanDisk store new → (v : Views) → clauses.AtRest store mid v → IsReadable v → clauses.IsCaused store mid new e) → IsErrAnd r (λ f. f ≡ e) → clauses.Reads store old new r Says
+  pub faults_after : {X : Type 0} (old mid new : S) (e : TableFault) (r : Result X TableFault) (Says : Views → X → Type 0) → clauses.OnlyReads database.state old mid → clauses.OnlyReads database.state mid new
+      → (clauses.HasCleanDisk database.state new → (v : Views) → clauses.AtRest database.state mid v → IsReadable v → clauses.IsCaused database.state mid new e) → IsErrAnd r (λ f. f ≡ e) → clauses.Reads database.state old new r Says
   faults_after old mid new e r Says first second cause is = record {
-    rests = reads_then (state store old) (state store mid) (state store new) first second;
+    rests = reads_then (database.state old) (database.state mid) (database.state new) first second;
     told = λ clean v rest.
-        passed_on r e (Says v) (λ fault. IsReadable v → clauses.IsCaused store old new fault) is
-        (λ readable. caused_later (state store old) (state store mid) (state store new) (λ _. ⊥) e first.survives second.survives.counts (second.clean clean) (cause clean v (first.kept v rest) readable));
+        passed_on r e (Says v) (λ fault. IsReadable v → clauses.IsCaused database.state old new fault) is
+        (λ readable. caused_later (database.state old) (database.state mid) (database.state new) (λ _. ⊥) e first.survives second.survives.counts (second.clean clean) (cause clean v (first.kept v rest) readable));
   }
 
   -- what they say, in other words
-  pub reads_as : {X : Type 0} (old new : Held S) (r : Result X TableFault) (Told Says : Views → X → Type 0) → ((v : Views) (x : X) → Told v x → Says v x) → clauses.Reads store old new r Told → clauses.Reads store old new r Says
+  pub reads_as : {X : Type 0} (old new : S) (r : Result X TableFault) (Told Says : Views → X → Type 0) → ((v : Views) (x : X) → Told v x → Says v x) → clauses.Reads database.state old new r Told → clauses.Reads database.state old new r Says
   reads_as old new r Told Says means read = record {
     rests = read.rests;
-    told = λ clean v rest. said_as r (Told v) (Says v) (λ fault. IsReadable v → clauses.IsCaused store old new fault) (means v) (read.told clean v rest);
+    told = λ clean v rest. said_as r (Told v) (Says v) (λ fault. IsReadable v → clauses.IsCaused database.state old new fault) (means v) (read.told clean v rest);
   }
 
-  found_caused : {X : Type 0} (found : Result X TableFault) (old new : Held S) (Told : X → Type 0) (Readable : Type 0) → Readable → MatchResult found Told (λ fault. Readable → clauses.IsCaused store old new fault) → IfErr (answered_as found) (IsCausedAs store old new)
+  found_caused : {X : Type 0} (found : Result X TableFault) (old new : S) (Told : X → Type 0) (Readable : Type 0) → Readable → MatchResult found Told (λ fault. Readable → clauses.IsCaused database.state old new fault) → IfErr (answered_as found) (IsCausedAs database.state old new)
   found_caused (Ok x) old new Told Readable readable told = tt
-  found_caused (Err fault) old new Told Readable readable told = caused_as store old new fault (told readable)
+  found_caused (Err fault) old new Told Readable readable told = caused_as database old new fault (told readable)
 
   -- a question that the tables answer
-  answers_found : {X : Type 0} (old new : Registry S store) (found : Result X TableFault) (Told : Views → X → Type 0) (Says : History → X → Type 0) → is_live old ≡ true → is_live new ≡ is_live old → kept_views new ≡ kept_views old
-      → clauses.Reads store (connection old) (connection new) found Told → ((h : History) → IsReached h → IsReadable (views_of h)) → ((h : History) (x : X) → Shows store old h → HasCleanDisk store old → Told (views_of h) x → Says h x)
-      → Finds store old new (answered_as found) Says
+  answers_found : {X : Type 0} (old new : Registry S database) (found : Result X TableFault) (Told : Views → X → Type 0) (Says : History → X → Type 0) → is_live old ≡ true → is_live new ≡ is_live old → kept_views new ≡ kept_views old
+      → clauses.Reads database.state (connection old) (connection new) found Told → ((h : History) → IsReached h → IsReadable (views_of h)) → ((h : History) (x : X) → Shows database old h → HasCleanDisk database old → Told (views_of h) x → Says h x)
+      → Finds database old new (answered_as found) Says
   answers_found old new found Told Says on same kept read readable means = record {
     failed = λ off. absurd (let both : true ≡ false = sym on ∙ off in let no : ⊥ = cc in no);
     fault = may_give found (is_live old) on;
     lives = same;
     rests = read.rests;
     told = λ clean h shows. (
-      found_told found (Told (views_of h)) (Says h) (λ fault. IsReadable (views_of h) → clauses.IsCaused store (connection old) (connection new) fault) (λ x told. means h x shows (read.rests.clean clean) told) (read.told clean (views_of h) shows.tables),
-      only_read store old new h same read.rests kept shows,
+      found_told found (Told (views_of h)) (Says h) (λ fault. IsReadable (views_of h) → clauses.IsCaused database.state (connection old) (connection new) fault) (λ x told. means h x shows (read.rests.clean clean) told) (read.told clean (views_of h) shows.tables),
+      only_read database old new h same read.rests kept shows,
     );
     caused = λ clean h shows. found_caused found (connection old) (connection new) (Told (views_of h)) (IsReadable (views_of h)) (readable h shows.history) (read.told clean (views_of h) shows.tables);
   }
 
-  pub answers_read : {X : Type 0} (old new : Registry S store) (found : Result X TableFault) (r : Result X Refusal) (Told : Views → X → Type 0) (Says : History → X → Type 0) → is_live old ≡ true → is_live new ≡ is_live old → kept_views new ≡ kept_views old
-      → clauses.Reads store (connection old) (connection new) found Told → r ≡ answered_as found → ((h : History) → IsReached h → IsReadable (views_of h)) → ((h : History) (x : X) → Shows store old h → HasCleanDisk store old → Told (views_of h) x → Says h x)
-      → Finds store old new r Says
+  pub answers_read : {X : Type 0} (old new : Registry S database) (found : Result X TableFault) (r : Result X Refusal) (Told : Views → X → Type 0) (Says : History → X → Type 0) → is_live old ≡ true → is_live new ≡ is_live old → kept_views new ≡ kept_views old
+      → clauses.Reads database.state (connection old) (connection new) found Told → r ≡ answered_as found → ((h : History) → IsReached h → IsReadable (views_of h)) → ((h : History) (x : X) → Shows database old h → HasCleanDisk database old → Told (views_of h) x → Says h x)
+      → Finds database old new r Says
   answers_read {X = X} old new found r Told Says on same kept read is readable means =
-      subst (λ (e : Result X Refusal). Finds store old new e Says) (sym is) (answers_found old new found Told Says on same kept read readable means)
+      subst (λ (e : Result X Refusal). Finds database old new e Says) (sym is) (answers_found old new found Told Says on same kept read readable means)
 
   -- the same from a registry that is this one
-  pub found_from : {X : Type 0} (start old new : Registry S store) (r : Result X Refusal) (Says : History → X → Type 0) → old ≡ start → Finds store old new r Says → Finds store start new r Says
-  found_from start old new r Says same found = subst (λ (s : Registry S store). Finds store s new r Says) same found
+  pub found_from : {X : Type 0} (start old new : Registry S database) (r : Result X Refusal) (Says : History → X → Type 0) → old ≡ start → Finds database old new r Says → Finds database start new r Says
+  found_from start old new r Says same found = subst (λ (s : Registry S database). Finds database s new r Says) same found
 
   -- a question that is answered without the tables
-  pub answered_here : {X : Type 0} (r : Registry S store) (x : X) (Says : History → X → Type 0) → is_live r ≡ true → (connection r).in_transaction ≡ false → (HasCleanDisk store r → (h : History) → Shows store r h → Says h x) → Finds store r r (Ok x) Says
+  pub answered_here : {X : Type 0} (r : Registry S database) (x : X) (Says : History → X → Type 0) → is_live r ≡ true → (database.state (connection r)).in_transaction ≡ false → (HasCleanDisk database r → (h : History) → Shows database r h → Says h x) → Finds database r r (Ok x) Says
   answered_here r x Says on settled says = record {
     failed = true_not (is_live r) on;
     fault = tt;
     lives = refl;
-    rests = nothing_read (state store (connection r)) settled;
+    rests = nothing_read (database.state (connection r)) settled;
     told = λ clean h shows. (says clean h shows, shows);
     caused = λ clean h shows. tt;
   }
 
   -- one for which memory runs out before the tables are asked
-  pub short_here : {X : Type 0} (r : Registry S store) (Says : History → X → Type 0) → is_live r ≡ true → (connection r).in_transaction ≡ false → Finds store r r (Err Memory) Says
+  pub short_here : {X : Type 0} (r : Registry S database) (Says : History → X → Type 0) → is_live r ≡ true → (database.state (connection r)).in_transaction ≡ false → Finds database r r (Err Memory) Says
   short_here r Says on settled = record {
     failed = true_not (is_live r) on;
     fault = record { alive = λ still. inl refl; failed = true_not (is_live r) on };
     lives = refl;
-    rests = nothing_read (state store (connection r)) settled;
+    rests = nothing_read (database.state (connection r)) settled;
     told = λ clean h shows. (inl refl, shows);
     caused = λ clean h shows. tt;
   }
 
   -- and one that a registry is asked which has failed
-  pub failed_here : {X : Type 0} (r : Registry S store) (Says : History → X → Type 0) → is_live r ≡ false → (connection r).in_transaction ≡ false → Finds store r r (Err Failed) Says
+  pub failed_here : {X : Type 0} (r : Registry S database) (Says : History → X → Type 0) → is_live r ≡ false → (database.state (connection r)).in_transaction ≡ false → Finds database r r (Err Failed) Says
   failed_here r Says off settled = record {
     failed = λ still. (refl, refl);
     fault = record { alive = λ on. true_not (is_live r) on off; failed = λ still. refl };
     lives = refl;
-    rests = nothing_read (state store (connection r)) settled;
+    rests = nothing_read (database.state (connection r)) settled;
     told = λ clean h shows. true_not (is_live r) shows.lives off;
     caused = λ clean h shows. true_not (is_live r) shows.lives off;
   }
 
   -- one at which the tables fail
-  pub answers_fault : {X : Type 0} (old new : Registry S store) (fault : TableFault) (e : Refusal) (Says : History → X → Type 0) → is_live old ≡ true → is_live new ≡ is_live old → kept_views new ≡ kept_views old → OnlyReads store old new → e ≡ refusal_for fault → IsMemoryOrStore e
-      → (HasCleanDisk store new → (h : History) → Shows store old h → clauses.IsCaused store (connection old) (connection new) fault) → Finds store old new (Err e) Says
+  pub answers_fault : {X : Type 0} (old new : Registry S database) (fault : TableFault) (e : Refusal) (Says : History → X → Type 0) → is_live old ≡ true → is_live new ≡ is_live old → kept_views new ≡ kept_views old → OnlyReads database old new → e ≡ refusal_for fault → IsMemoryOrStore e
+      → (HasCleanDisk database new → (h : History) → Shows database old h → clauses.IsCaused database.state (connection old) (connection new) fault) → Finds database old new (Err e) Says
   answers_fault old new fault e Says on same kept reads is bad cause = record {
     failed = true_not (is_live old) on;
     fault = record { alive = λ still. bad; failed = true_not (is_live old) on };
     lives = same;
     rests = reads;
-    told = λ clean h shows. (bad, only_read store old new h same reads kept shows);
-    caused = λ clean h shows. caused_by store (connection old) (connection new) fault e is (cause clean h shows);
+    told = λ clean h shows. (bad, only_read database old new h same reads kept shows);
+    caused = λ clean h shows. caused_by database (connection old) (connection new) fault e is (cause clean h shows);
   }
 
   -- what has its cause in a call has it in that and those before
-  pub caused_since : (old mid new : Held S) (e : Refusal) → clauses.OnlyReads store old mid → clauses.OnlyReads store mid new → clauses.HasCleanDisk store new → IsCausedAs store mid new e → IsCausedAs store old new e
+  pub caused_since : (old mid new : S) (e : Refusal) → clauses.OnlyReads database.state old mid → clauses.OnlyReads database.state mid new → clauses.HasCleanDisk database.state new → IsCausedAs database.state mid new e → IsCausedAs database.state old new e
   caused_since old mid new Memory first second clean cause = tt
-  caused_since old mid new Store first second clean cause = caused_later (state store old) (state store mid) (state store new) (λ _. ⊥) faults.Store first.survives second.survives.counts (second.clean clean) cause
+  caused_since old mid new Store first second clean cause = caused_later (database.state old) (database.state mid) (database.state new) (λ _. ⊥) faults.Store first.survives second.survives.counts (second.clean clean) cause
   caused_since old mid new e first second clean cause = cause
 
-  fault_since : {X : Type 0} (r : Result X Refusal) (old mid new : Held S) → clauses.OnlyReads store old mid → clauses.OnlyReads store mid new → clauses.HasCleanDisk store new → IfErr r (IsCausedAs store mid new) → IfErr r (IsCausedAs store old new)
+  fault_since : {X : Type 0} (r : Result X Refusal) (old mid new : S) → clauses.OnlyReads database.state old mid → clauses.OnlyReads database.state mid new → clauses.HasCleanDisk database.state new → IfErr r (IsCausedAs database.state mid new) → IfErr r (IsCausedAs database.state old new)
   fault_since (Ok x) old mid new first second clean cause = tt
   fault_since (Err e) old mid new first second clean cause = caused_since old mid new e first second clean cause
 
   -- a registry that has answered is live
-  pub live_after : {Y : Type 0} (old mid : Registry S store) (y : Y) (Before : History → Y → Type 0) → Finds store old mid (Ok y) Before → is_live mid ≡ true
+  pub live_after : {Y : Type 0} (old mid : Registry S database) (y : Y) (Before : History → Y → Type 0) → Finds database old mid (Ok y) Before → is_live mid ≡ true
   live_after old mid y Before first = first.lives ∙ still_live (is_live old) (λ off. answered y Failed (first.failed off).0)
 
   -- a question behind another one
-  pub answers_then : {X Y : Type 0} (old mid new : Registry S store) (y : Y) (r : Result X Refusal) (Before : History → Y → Type 0) (Says : History → X → Type 0) → Finds store old mid (Ok y) Before → Finds store mid new r Says → Finds store old new r Says
+  pub answers_then : {X Y : Type 0} (old mid new : Registry S database) (y : Y) (r : Result X Refusal) (Before : History → Y → Type 0) (Says : History → X → Type 0) → Finds database old mid (Ok y) Before → Finds database mid new r Says → Finds database old new r Says
   answers_then old mid new y r Before Says first second =
       let on : is_live old ≡ true = still_live (is_live old) (λ off. answered y Failed (first.failed off).0) in
       record {
         failed = true_not (is_live old) on;
         fault = subst (λ (b : Bool). IfErr r (MayGive b)) first.lives second.fault;
         lives = second.lives ∙ first.lives;
-        rests = reads_then (state store (connection old)) (state store (connection mid)) (state store (connection new)) first.rests second.rests;
+        rests = reads_then (database.state (connection old)) (database.state (connection mid)) (database.state (connection new)) first.rests second.rests;
         told = λ clean h shows. second.told clean h (first.told (second.rests.clean clean) h shows).1;
         caused = λ clean h shows. fault_since r (connection old) (connection mid) (connection new) first.rests second.rests clean (second.caused clean h (first.told (second.rests.clean clean) h shows).1);
       }
 
   -- one that the tables answer behind another one
-  pub answers_after : {X Y : Type 0} (old mid new : Registry S store) (y : Y) (found : Result X TableFault) (r : Result X Refusal) (Before : History → Y → Type 0) (Told : Views → X → Type 0) (Says : History → X → Type 0) → Finds store old mid (Ok y) Before → is_live new ≡ is_live mid
-      → kept_views new ≡ kept_views mid → clauses.Reads store (connection mid) (connection new) found Told → r ≡ answered_as found → ((h : History) → IsReached h → IsReadable (views_of h))
-      → ((h : History) (x : X) → Shows store mid h → HasCleanDisk store mid → Told (views_of h) x → Says h x) → Finds store old new r Says
+  pub answers_after : {X Y : Type 0} (old mid new : Registry S database) (y : Y) (found : Result X TableFault) (r : Result X Refusal) (Before : History → Y → Type 0) (Told : Views → X → Type 0) (Says : History → X → Type 0) → Finds database old mid (Ok y) Before → is_live new ≡ is_live mid
+      → kept_views new ≡ kept_views mid → clauses.Reads database.state (connection mid) (connection new) found Told → r ≡ answered_as found → ((h : History) → IsReached h → IsReadable (views_of h))
+      → ((h : History) (x : X) → Shows database mid h → HasCleanDisk database mid → Told (views_of h) x → Says h x) → Finds database old new r Says
   answers_after old mid new y found r Before Told Says first same kept read is readable means =
       answers_then old mid new y r Before Says first (answers_read mid new found r Told Says (live_after old mid y Before first) same kept read is readable means)
 
   -- one whose answer is left out
-  answers_nothing : {X : Type 0} (old new : Registry S store) (x : X) (Says : History → X → Type 0) → Finds store old new (Ok x) Says → Finds store old new (Ok (tt {0})) (λ h _. Unit {0})
+  answers_nothing : {X : Type 0} (old new : Registry S database) (x : X) (Says : History → X → Type 0) → Finds database old new (Ok x) Says → Finds database old new (Ok (tt {0})) (λ h _. Unit {0})
   answers_nothing old new x Says a = record {
     failed = λ off. absurd (answered x Failed (a.failed off).0);
     fault = tt;
@@ -225,7 +225,7 @@ module _ {S : Type 0} (store : Ghosts S) where
   }
 
   -- and one for which memory ran out, which is no matter
-  answers_short : {X : Type 0} (old new : Registry S store) (e : Refusal) (Says : History → X → Type 0) → e ≡ Memory → Finds store old new (Err e) Says → Finds store old new (Ok (tt {0})) (λ h _. Unit {0})
+  answers_short : {X : Type 0} (old new : Registry S database) (e : Refusal) (Says : History → X → Type 0) → e ≡ Memory → Finds database old new (Err e) Says → Finds database old new (Ok (tt {0})) (λ h _. Unit {0})
   answers_short old new e Says is a = record {
     failed = λ off. absurd (not_failed (ap (λ (r : Refusal). Err r) (sym is) ∙ (a.failed off).0));
     fault = tt;
@@ -235,23 +235,23 @@ module _ {S : Type 0} (store : Ghosts S) where
     caused = λ clean h shows. tt;
   }
 
-  answers_unless : {X : Type 0} (old new : Registry S store) (e : Refusal) (r : Result (Unit {0}) Refusal) (Says : History → X → Type 0) → (r ≡ Err e) ⊎ ((e ≡ Memory) × (r ≡ Ok tt)) → Finds store old new (Err e) Says → Finds store old new r (λ h _. Unit {0})
-  answers_unless old new e r Says (inl same) a = subst (λ (x : Result (Unit {0}) Refusal). Finds store old new x (λ h _. Unit {0})) (sym same) (answers_refused old new e Says (λ h _. Unit {0}) a)
-  answers_unless old new e r Says (inr (short, same)) a = subst (λ (x : Result (Unit {0}) Refusal). Finds store old new x (λ h _. Unit {0})) (sym same) (answers_short old new e Says short a)
+  answers_unless : {X : Type 0} (old new : Registry S database) (e : Refusal) (r : Result (Unit {0}) Refusal) (Says : History → X → Type 0) → (r ≡ Err e) ⊎ ((e ≡ Memory) × (r ≡ Ok tt)) → Finds database old new (Err e) Says → Finds database old new r (λ h _. Unit {0})
+  answers_unless old new e r Says (inl same) a = subst (λ (x : Result (Unit {0}) Refusal). Finds database old new x (λ h _. Unit {0})) (sym same) (answers_refused old new e Says (λ h _. Unit {0}) a)
+  answers_unless old new e r Says (inr (short, same)) a = subst (λ (x : Result (Unit {0}) Refusal). Finds database old new x (λ h _. Unit {0})) (sym same) (answers_short old new e Says short a)
 
   -- whatever it was answered, unless that was another refusal
-  pub answers_kept : {X : Type 0} (old new : Registry S store) (found : Result X Refusal) (r : Result (Unit {0}) Refusal) (Says : History → X → Type 0) → MatchResult found (λ x. r ≡ Ok tt) (λ e. (r ≡ Err e) ⊎ ((e ≡ Memory) × (r ≡ Ok tt))) → Finds store old new found Says → Finds store old new r (λ h _. Unit {0})
-  answers_kept old new (Ok x) r Says is a = subst (λ (y : Result (Unit {0}) Refusal). Finds store old new y (λ h _. Unit {0})) (sym is) (answers_nothing old new x Says a)
+  pub answers_kept : {X : Type 0} (old new : Registry S database) (found : Result X Refusal) (r : Result (Unit {0}) Refusal) (Says : History → X → Type 0) → MatchResult found (λ x. r ≡ Ok tt) (λ e. (r ≡ Err e) ⊎ ((e ≡ Memory) × (r ≡ Ok tt))) → Finds database old new found Says → Finds database old new r (λ h _. Unit {0})
+  answers_kept old new (Ok x) r Says is a = subst (λ (y : Result (Unit {0}) Refusal). Finds database old new y (λ h _. Unit {0})) (sym is) (answers_nothing old new x Says a)
   answers_kept old new (Err e) r Says is a = answers_unless old new e r Says is a
 
   -- a read that kept nothing
-  pub answers_unkept : (old new : Registry S store) → is_live old ≡ true → is_live new ≡ is_live old → kept_views new ≡ kept_views old → OnlyReads store old new → Finds store old new (Ok (tt {0})) (λ h _. Unit {0})
+  pub answers_unkept : (old new : Registry S database) → is_live old ≡ true → is_live new ≡ is_live old → kept_views new ≡ kept_views old → OnlyReads database old new → Finds database old new (Ok (tt {0})) (λ h _. Unit {0})
   answers_unkept old new on same kept reads = record {
     failed = true_not (is_live old) on;
     fault = tt;
     lives = same;
     rests = reads;
-    told = λ clean h shows. (tt, only_read store old new h same reads kept shows);
+    told = λ clean h shows. (tt, only_read database old new h same reads kept shows);
     caused = λ clean h shows. tt;
   }
 

@@ -21,23 +21,23 @@ next_taken (x ∷ commands) (suc n) c rest is = let below = next_taken commands 
 is_next : (commands : List Asked) (n : ℕ) (c : Asked) (rest : List Asked) → drop n commands ≡ c ∷ rest → IsNext commands n c
 is_next commands n c rest is = let next = next_taken commands n c rest is in record { more = next.0; taken = ap (λ k. take k commands) (add-one n) ∙ next.1 }
 
-module _ {S : Type 0} (store : Ghosts S) where
+module _ {S : Type 0} (database : Ghosts S) where
   -- it failed at the next command
-  record FailsNext (fault : Option Refusal) (rest : List Asked) (r : Registry S store) (h : History) : Type 0 where
+  record FailsNext (fault : Option Refusal) (rest : List Asked) (r : Registry S database) (h : History) : Type 0 where
     pub is_fault : IsSomeAnd fault IsMemoryOrStore
     pub next : Asked
     pub behind : List Asked
     pub is_next : rest ≡ next ∷ behind
-    pub fails : FailsBetween store r h (after h next)
+    pub fails : FailsBetween database r h (after h next)
 
-  ended : (fault : Option Refusal) (rest : List Asked) (r : Registry S store) (h : History) → EndsRun store fault rest r h → Shows store r h ⊎ FailsNext fault rest r h
+  ended : (fault : Option Refusal) (rest : List Asked) (r : Registry S database) (h : History) → EndsRun database fault rest r h → Shows database r h ⊎ FailsNext fault rest r h
   ended None [] r h ends = inl ends
   ended None (c ∷ rest) r h ends = absurd ends
   ended (Some e) [] r h ends = absurd ends
   ended (Some e) (c ∷ rest) r h (fault, inl shows) = inl shows
   ended (Some e) (c ∷ rest) r h (fault, inr fails) = inr (record { is_fault = fault; next = c; behind = rest; is_next = refl; fails = fails })
 
-  pub run_sessions : (report : RunReport) (r : Registry S store) (h : History) (commands : List Asked) → Runs store report r h commands → sessions.ListLeaves (showing store) report.replies.items report.fault r h commands
+  pub run_sessions : (report : RunReport) (r : Registry S database) (h : History) (commands : List Asked) → Runs database report r h commands → sessions.ListLeaves (showing database) report.replies.items report.fault r h commands
   run_sessions report r h commands runs =
       let n = length report.replies.items in
       let so_far = after_all h (take n commands) in
@@ -50,7 +50,7 @@ module _ {S : Type 0} (store : Ghosts S) where
               inr (
                 failed.is_fault,
                 next.more,
-                subst (λ (g : History). FailsBetween store r so_far g) (sym (ap (after_all h) next.taken ∙ after_more (take n commands) h (failed.next ∷ []))) failed.fails,
+                subst (λ (g : History). FailsBetween database r so_far g) (sym (ap (after_all h) next.taken ∙ after_more (take n commands) h (failed.next ∷ []))) failed.fails,
               )
         ];
       }

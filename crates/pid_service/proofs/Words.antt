@@ -45,7 +45,7 @@ pub use Rattle.pid_moderation.specs.declared.change.Change.{Change}
 pub use Rattle.pid_moderation.specs.declared.change.Edit.{Edit}
 pub use Rattle.pid_moderation.specs.declared.change.Edit.TheVariants.{Add, Remove, Rename}
 pub use Rattle.pid_moderation.specs.declared.change.Effect.{Effect}
-pub use Rattle.pid_moderation.specs.declared.change.Effect.TheVariants.{Decided, Imported, Nothing, Ranked, Remarked}
+pub use Rattle.pid_moderation.specs.declared.change.Effect.TheVariants.{Decided, Ranked}
 pub use Rattle.pid_moderation.specs.declared.change.Receipt.{Receipt}
 pub use Rattle.pid_moderation.specs.declared.command.Act.{Act}
 pub use Rattle.pid_moderation.specs.declared.command.Act.TheVariants.{Account, Approve, Comment, Import, Reject, Submit, Withdraw}
@@ -115,7 +115,6 @@ pub use Rattle.pid_service_laws.specs.WholeFronts.{IsWholeFront}
 pub use Rattle.pid_service_laws.specs.declared.faults.ExportFault.{ExportFault}
 pub use Rattle.pid_service_laws.specs.declared.faults.ImportEnd.{ImportEnd}
 pub use Rattle.pid_service_laws.specs.declared.faults.ImportEnd.TheVariants.{Body}
-pub use Rattle.pid_tables.specs.Applies.{CountsFit}
 pub use Rattle.pid_tables.specs.AtOnce.{IsCommitted, IsOneStep, IsTakenBack}
 pub use Rattle.pid_tables.specs.Bringing.{Brings, Fails, Left, Raised, Refuses, Stays}
 pub use Rattle.pid_tables.specs.Check.Checking.{Explains, FindsVersion}
@@ -138,9 +137,10 @@ pub use Rattle.pid_tables.specs.Rows.Clauses.{LeavesEither, seen}
 pub use Rattle.pid_tables.specs.Rows.Faults.{IsNotNewerSchema}
 pub use Rattle.pid_tables.specs.Rows.Leaves.{found_in, IsShown, RestsIn}
 pub use Rattle.pid_tables.specs.Rows.Schema.{schema_of}
-pub use Rattle.pid_tables.specs.Rows.Shows.{AreViews, counts_of, ShowsIn}
+pub use Rattle.pid_tables.specs.Rows.Shows.{AreViews, ShowsIn}
 pub use Rattle.pid_tables.specs.Searches.Filings.{filed_as}
 pub use Rattle.pid_tables.specs.Searches.KeptNumbers.{AreKeptFor, HoldsNumbers}
+pub use Rattle.pid_tables.specs.declared.database.Database.{Ghosts}
 pub use Rattle.pid_tables.specs.declared.judging.Early.TheVariants.{Answered}
 pub use Rattle.pid_tables.specs.declared.lists.walk.EachEnd.{EachEnd}
 pub use Rattle.pid_tables.specs.declared.lists.walk.EachEnd.TheVariants.{Fault, Tables}
@@ -153,7 +153,5 @@ pub use Rattle.pid_tables.specs.declared.rows.schema_version.Version.TheVariants
 pub use Rattle.pid_tables.specs.declared.searches.numbers.Searches.{Searches}
 pub use Rattle.pid_tables.specs.declared.searches.numbers.Searches.TheVariants.{Lacking, Unread}
 pub use Rattle.sqlite.specs.Effect.{Database}
-pub use Rattle.sqlite.specs.Held.{Held, state}
 pub use Rattle.sqlite.specs.State.{Survives}
 pub use Rattle.sqlite.specs.Tree.{Trees}
-pub use Rattle.sqlite_trees.specs.declared.store.Store.{Ghosts}

@@ -2,8 +2,6 @@
 -- what is exported and looked up there. A choice of this project.
 use Rattle.std.specs.Prelude.{◌≡◌, ℕ, List, [], ◌∷◌, ◌++◌, Ok}
 use Rattle.std.specs.Io.KnownBytes.{Appends}
-use Rattle.sqlite.specs.Held.{Held}
-use Rattle.sqlite_trees.specs.declared.store.Store.{Ghosts}
 use Rattle.pid_file.specs.declared.io.Output as outputs
 use Rattle.pid_file.specs.Printing.{print}
 use Rattle.pid_lookup.specs.declared.answer.Answer.{Answer}
@@ -13,6 +11,7 @@ use Rattle.pid_moderation.specs.History.{History}
 use Rattle.pid_moderation.specs.Writes.{tree_of}
 use Rattle.pid_service_laws.specs.Calls.{Call}
 use Rattle.pid_service_laws.specs.Registries.{CallsLead}
+use Rattle.pid_tables.specs.declared.database.Database.{Ghosts}
 use Rattle.pid_service.specs.declared.registry.Registry.{Registry}
 use Rattle.pid_service.specs.Exporting.{IsExported}
 use Rattle.pid_service.specs.Sessions.{IsAfterSession, ShowsPrefixes, showing}
@@ -23,14 +22,14 @@ use Rattle.pid_service.specs.Registries.{HasCleanDisk}
 -- A registry shows the history after a prefix of the commands of each session, which holds every
 -- acknowledged one, and whose tree its printed text reads back to, and to no other. A whole export
 -- writes that text, and a look-up answers the text that the flags define over that tree.
-pub record TellsPrefixes {S W : Type 0} (store : Ghosts S) (writer : outputs.Ghosts W)
-    (registry : Registry S store) (start : History) (runs : List (List Call)) : Type 0 where
-  pub again : ShowsPrefixes store registry start runs
-  pub exports : (exported : Registry S store) (before after : W)
-      → IsExported store writer registry exported before after (Ok tt) → HasCleanDisk store exported
+pub record TellsPrefixes {S W : Type 0} (database : Ghosts S) (writer : outputs.Ghosts W)
+    (registry : Registry S database) (start : History) (runs : List (List Call)) : Type 0 where
+  pub again : ShowsPrefixes database registry start runs
+  pub exports : (left : Registry S database) (before after : W)
+      → IsExported database writer registry left before after (Ok tt) → HasCleanDisk database left
       → Appends (writer.taken before) (writer.taken after) (print (tree_of again.history))
-  pub looks_up : (asked : Registry S store) (flags size : ℕ) (args : Args) (answer : Answer)
-      → IsLookedUp store registry asked flags args size (Ok answer) → HasCleanDisk store asked
+  pub looks_up : (asked : Registry S database) (flags size : ℕ) (args : Args) (answer : Answer)
+      → IsLookedUp database registry asked flags args size (Ok answer) → HasCleanDisk database asked
       → answer ≡ answer_of (tree_of again.history) flags args size
 
 -- Calls led from a registry, which showed prefixes of the sessions before, to its end; a connection
@@ -39,6 +38,6 @@ abbrev pub OpeningsTellPrefixes : {S T W : Type 0} → Ghosts S → Ghosts T →
 OpeningsTellPrefixes {S} {T} from to writer =
     (opened ended : Registry S from) (start : History) (runs : List (List Call)) (calls : List Call)
     → ShowsPrefixes from opened start runs → CallsLead (showing from) opened calls ended
-    → (conn : Held T) → IsAfterSession from to ended conn
+    → (conn : T) → IsAfterSession from to ended conn
     → (next : Registry T to) → OpensTo to conn (Ok next) → HasCleanDisk to next
     → TellsPrefixes to writer next start (runs ++ calls ∷ [])

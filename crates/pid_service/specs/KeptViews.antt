@@ -1,7 +1,6 @@
 -- What a registry keeps in memory of what is asked for again and again.
 use Rattle.std.specs.Prelude.{◌≡◌, ◌<◌, ℕ, length, List, [], Option, None, IfSome, Vec, map}
 use Rattle.std.specs.declared.alloc.Global.{Global}
-use Rattle.sqlite_trees.specs.declared.store.Store.{Ghosts}
 use Rattle.pid_moderation.specs.ChangePages.{changed_after, changed_of}
 use Rattle.pid_moderation.specs.Children.{children_of}
 use Rattle.pid_moderation.specs.History.{History}
@@ -14,6 +13,7 @@ use Rattle.pid_moderation.specs.declared.lists.Item.{Item}
 use Rattle.pid_moderation.specs.declared.lists.TheConstants.{PAGE}
 use Rattle.pid_lookup.specs.CacheAgreement.{Agrees}
 use Rattle.pid_tables.specs.Rows.Accounts.{HasAccounts}
+use Rattle.pid_tables.specs.declared.database.Database.{Ghosts}
 use Rattle.pid_service.specs.declared.changes.KeptChanges.{KeptChanges}
 use Rattle.pid_service.specs.declared.kept_text.Extent.{Extent}
 use Rattle.pid_service.specs.declared.kept_text.KeptText.{KeptText}
@@ -27,11 +27,11 @@ use Rattle.pid_tables.specs.Searches.KeptNumbers.{HoldsNumbers}
 use Rattle.pid_service.specs.Registries.{HasCleanDisk}
 
 -- what it keeps
-abbrev pub kept_views : {S : Type 0} {store : Ghosts S} → Registry S store → KeptViews
+abbrev pub kept_views : {S : Type 0} {database : Ghosts S} → Registry S database → KeptViews
 kept_views r = r.kept
 
 -- what it keeps of the items
-abbrev pub kept_by : {S : Type 0} {store : Ghosts S} → Registry S store → KeptItems
+abbrev pub kept_by : {S : Type 0} {database : Ghosts S} → Registry S database → KeptItems
 kept_by r = r.kept.items
 
 -- no name and no text
@@ -107,5 +107,5 @@ pub record IsRightFor (k : KeptViews) (v : Views) : Type 0 where
   pub accounts : HoldsAccounts k.accounts v
 
 -- while the disk returns what was written, what is kept is right about the history
-abbrev pub KeepsRight : {S : Type 0} (store : Ghosts S) → Registry S store → History → Type 0
-KeepsRight store r h = HasCleanDisk store r → IsRightFor (kept_views r) (views_of h)
+abbrev pub KeepsRight : {S : Type 0} (database : Ghosts S) → Registry S database → History → Type 0
+KeepsRight database r h = HasCleanDisk database r → IsRightFor (kept_views r) (views_of h)

@@ -1,8 +1,6 @@
 -- The laws that lead from one call, opening or migration of registries to the next, and so to the
 -- crash prefix: each is the contract of a function of `sessions`. A choice of this project.
 use Rattle.std.specs.Prelude.{◌≡◌, ℕ, true, false, List, [], ◌∷◌, ◌++◌, Some, Ok, Err, Result}
-use Rattle.sqlite.specs.Held.{Held}
-use Rattle.sqlite_trees.specs.declared.store.Store.{Ghosts}
 use Rattle.pid_moderation.specs.declared.command.Reply.{Reply}
 use Rattle.pid_moderation.specs.declared.refusal.Refusal.{Refusal}
 use Rattle.pid_moderation.specs.declared.refusal.Refusal.TheVariants.{Failed}
@@ -13,6 +11,7 @@ use Rattle.pid_moderation.specs.Views.{Views, views_of, without_numbers}
 use Rattle.pid_service_laws.specs.Calls.{Call, nothing_sent, obeyed, ran, sent_in}
 use Rattle.pid_service_laws.specs.Outcomes.{is_outcome}
 use Rattle.pid_service_laws.specs.Registries.{CallsLead, Does, ShowsAgain}
+use Rattle.pid_tables.specs.declared.database.Database.{Ghosts}
 use Rattle.pid_tables.specs.declared.rows.fault.TableFault.{TableFault}
 use Rattle.pid_tables.specs.Rows.Clauses as clauses
 use Rattle.pid_tables.specs.Rows.Faults.{IsMemoryOrStore}
@@ -36,93 +35,99 @@ use Rattle.pid_service.specs.Opening.{MovesTo, OpensTo, moved_to}
 use Rattle.pid_service.specs.Registries.{HasCleanDisk, connection, is_live}
 use Rattle.pid_service.specs.Running.{Runs}
 
-module _ {S : Type 0} (store : Ghosts S) where
+module _ {S : Type 0} (database : Ghosts S) where
   -- The clauses of each call say what a session asks of it.
   pub record CallsMeetSessions : Type 0 where
     -- one that obeys a command
-    pub obeys : (old new : Registry S store) (c : Asked) (result : Result Reply Refusal)
-        → (HasCleanDisk store new → HasCleanDisk store old)
+    pub obeys : (old new : Registry S database) (c : Asked) (result : Result Reply Refusal)
+        → (HasCleanDisk database new → HasCleanDisk database old)
         → (is_live old ≡ false → (result ≡ Err Failed) × (new ≡ old))
-        → OverHistory store old new (λ h. Obeys store result new h c)
-        → Does (showing store) old (obeyed c result (is_live new)) new
+        → OverHistory database old new (λ h. Obeys database result new h c)
+        → Does (showing database) old (obeyed c result (is_live new)) new
     -- an import of an input
-    pub imports : (old new : Registry S store) (c : Asked) (result : Result Reply ImportEnd)
-        → (HasCleanDisk store new → HasCleanDisk store old)
+    pub imports : (old new : Registry S database) (c : Asked) (result : Result Reply ImportEnd)
+        → (HasCleanDisk database new → HasCleanDisk database old)
         → (is_live old ≡ false → AnswersFailed result × (new ≡ old))
-        → OverHistory store old new (λ h. ObeysImport store result new h c)
-        → Does (showing store) old (import_sent c result (is_live new)) new
+        → OverHistory database old new (λ h. ObeysImport database result new h c)
+        → Does (showing database) old (import_sent c result (is_live new)) new
     -- a list of commands
-    pub runs : (old new : Registry S store) (commands : List Asked) (report : RunReport)
-        → (HasCleanDisk store new → HasCleanDisk store old)
+    pub runs : (old new : Registry S database) (commands : List Asked) (report : RunReport)
+        → (HasCleanDisk database new → HasCleanDisk database old)
         → (is_live old ≡ false → (report.replies.items ≡ []) × (report.fault ≡ Some Failed)
         × (new ≡ old))
-        → OverHistory store old new (λ h. Runs store report new h commands)
-        → Does (showing store) old (ran commands report.replies.items report.fault (is_live new))
+        → OverHistory database old new (λ h. Runs database report new h commands)
+        → Does (showing database) old (ran commands report.replies.items report.fault (is_live new))
         new
     -- one that only looks
-    pub looks : (old new : Registry S store) → (HasCleanDisk store new → HasCleanDisk store old)
-        → (is_live old ≡ false → new ≡ old) → OverHistory store old new (Shows store new)
-        → Does (showing store) old nothing_sent new
+    pub looks : (old new : Registry S database)
+        → (HasCleanDisk database new → HasCleanDisk database old)
+        → (is_live old ≡ false → new ≡ old) → OverHistory database old new (Shows database new)
+        → Does (showing database) old nothing_sent new
 
   -- What a connection shows before the first opening, and the registry that is opened there.
   pub record FirstOpenings : Type 0 where
     -- a database without tables has what the history of a new registry shows
-    pub bare : (conn : Held S) → IsOpened store conn → ListsNoTable (clauses.seen store conn).trees
-        → ShowsOrBlank store conn new_history
+    pub bare : (conn : S) → IsOpened database.state conn
+        → ListsNoTable (clauses.seen database.state conn).trees
+        → ShowsOrBlank database.state conn new_history
     pub new : IsReached new_history
     -- one that was just opened on tables has the history that they show
-    pub there : (conn : Held S) (h : History) → IsOpened store conn
-        → IsShown (clauses.seen store conn).trees (views_of h) → ShowsOrBlank store conn h
+    pub there : (conn : S) (h : History) → IsOpened database.state conn
+        → IsShown (clauses.seen database.state conn).trees (views_of h)
+        → ShowsOrBlank database.state conn h
     -- the registry that is opened there shows that history
-    pub opened : (conn : Held S) (first : Registry S store) (h : History) → IsReached h
-        → ShowsOrBlank store conn h → OpensTo store conn (Ok first) → HasCleanDisk store first
-        → Shows store first h
+    pub opened : (conn : S) (first : Registry S database) (h : History) → IsReached h
+        → ShowsOrBlank database.state conn h → OpensTo database conn (Ok first)
+        → HasCleanDisk database first → Shows database first h
 
   -- What becomes of a history that a connection shows, if it is migrated or not opened.
   pub record HistoriesAreKept : Type 0 where
     -- the tables that a migration leaves show it in the schema of today
-    pub moved : (conn moved : Held S) (step : Step) (h : History) → IsReached h
-        → ShowsOrBlank store conn h → MovesTo store conn (Ok (moved, step))
-        → clauses.HasCleanDisk store moved → clauses.AtRest store moved (views_of h)
+    pub moved : (conn moved : S) (step : Step) (h : History) → IsReached h
+        → ShowsOrBlank database.state conn h → MovesTo database.state conn (Ok (moved, step))
+        → clauses.HasCleanDisk database.state moved
+        → clauses.AtRest database.state moved (views_of h)
     -- whether it failed or not, it is shown still
-    pub migrated : (conn : Held S) (result : Result (Held S × Step) (TableFault × Held S))
-        → MovesTo store conn result → KeepsHistory store store conn (moved_to store result)
+    pub migrated : (conn : S) (result : Result (S × Step) (TableFault × S))
+        → MovesTo database.state conn result
+        → KeepsHistory database database conn (moved_to result)
     -- and if an opening failed, the connection that comes back shows it
-    pub unopened : (conn back : Held S) (fault : TableFault)
-        → OpensTo store conn (Err (fault, back)) → KeepsHistory store store conn back
+    pub unopened : (conn back : S) (fault : TableFault)
+        → OpensTo database conn (Err (fault, back)) → KeepsHistory database database conn back
     -- neither answers damage or a later schema
-    pub unmoved_for : (conn back : Held S) (fault : TableFault) (h : History) → IsReached h
-        → ShowsOrBlank store conn h → MovesTo store conn (Err (fault, back))
-        → clauses.HasCleanDisk store back → IsMemoryOrStore fault
-    pub unopened_for : (conn back : Held S) (fault : TableFault) (h : History) → IsReached h
-        → ShowsOrBlank store conn h → OpensTo store conn (Err (fault, back))
-        → clauses.HasCleanDisk store back → IsMemoryOrStore fault
+    pub unmoved_for : (conn back : S) (fault : TableFault) (h : History) → IsReached h
+        → ShowsOrBlank database.state conn h → MovesTo database.state conn (Err (fault, back))
+        → clauses.HasCleanDisk database.state back → IsMemoryOrStore fault
+    pub unopened_for : (conn back : S) (fault : TableFault) (h : History) → IsReached h
+        → ShowsOrBlank database.state conn h → OpensTo database conn (Err (fault, back))
+        → clauses.HasCleanDisk database.state back → IsMemoryOrStore fault
 
   -- tables of schema 1, which keep no numbers, have the history moved
   abbrev pub EarlierTablesShow : Type 0
-  EarlierTablesShow = (conn : Held S) (v : Views) (h : History) → IsOpened store conn
-      → ShowsIn One (found_in (schema_of One) (clauses.seen store conn).trees) v
-      → without_numbers v ≡ without_numbers (views_of h) → ShowsOrBlank store conn (taken_over h)
+  EarlierTablesShow = (conn : S) (v : Views) (h : History) → IsOpened database.state conn
+      → ShowsIn One (found_in (schema_of One) (clauses.seen database.state conn).trees) v
+      → without_numbers v ≡ without_numbers (views_of h)
+      → ShowsOrBlank database.state conn (taken_over h)
 
 -- From the end of a session to the next opening, which may be over another store.
 pub record OpeningsShowAgain {S T : Type 0} (from : Ghosts S) (to : Ghosts T) : Type 0 where
   -- what a stop leaves of a connection shows what that showed
-  pub stops : (earlier : Held S) (conn : Held T) → IsAfterStop from to earlier conn
+  pub stops : (earlier : S) (conn : T) → IsAfterStop from to earlier conn
       → KeepsHistory from to earlier conn
   -- what a stop leaves of a registry has its tables, whether it is live or has failed
-  pub stopped : (ended : Registry S from) (conn : Held T)
+  pub stopped : (ended : Registry S from) (conn : T)
       → IsAfterStop from to (connection ended) conn → LeavesTablesTo from to ended conn
   -- so has the connection that a live one hands back as it is closed
   pub closed : (ended : Registry S from) → is_live ended ≡ true
       → LeavesTablesTo from from ended (connection ended)
   -- a registry that is opened on these tables shows again what they showed
-  pub opened : (ended : Registry S from) (conn : Held T) (next : Registry T to)
+  pub opened : (ended : Registry S from) (conn : T) (next : Registry T to)
       → LeavesTablesTo from to ended conn → OpensTo to conn (Ok next)
       → ShowsAgain (showing from) (showing to) ended next
 
 -- Stops, migrations and openings that fail may come between two sessions, as many as there are.
 abbrev pub KeepsBetween : {S T U : Type 0} → Ghosts S → Ghosts T → Ghosts U → Type 0
-KeepsBetween {S} {T} {U} from by to = (ended : Registry S from) (conn : Held T) (next : Held U)
+KeepsBetween {S} {T} {U} from by to = (ended : Registry S from) (conn : T) (next : U)
     → LeavesTablesTo from by ended conn → KeepsHistory by to conn next
     → LeavesTablesTo from to ended next
 

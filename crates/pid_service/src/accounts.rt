@@ -7,8 +7,7 @@ ghost use Rattle.pid_service.specs.KeptViews.{HoldsAccounts};
 ghost use Rattle.pid_service.specs.Steps.Asking.{ReadsIn};
 
 use pid_moderation::Effect;
-use pid_tables::{TableFault, Tables};
-use sqlite::Alter;
+use pid_tables::{Database, TableFault, Tables};
 
 /// How many accounts there are after a change.
 pub(crate) fn accounts_after(count: Option<u64>, effect: &Effect) -> Option<u64>
@@ -31,11 +30,11 @@ pub(crate) fn accounts_after(count: Option<u64>, effect: &Effect) -> Option<u64>
 }
 
 /// How many accounts there are, by the number that is kept; if none is, their rows are counted.
-pub(crate) fn count_accounts<S: Alter + Drop>(
-    tables: &mut Tables<S>,
+pub(crate) fn count_accounts<C: Database + Drop>(
+    tables: &mut Tables<C>,
     kept: Option<u64>,
 ) -> Result<u64, TableFault>
-    ensures { ReadsIn S.Store tables.old tables.new result
+    ensures { ReadsIn C.Database tables.old tables.new result
         (λ v n. HoldsAccounts kept v → HasAccounts v n) }
 {
     match kept {

@@ -8,9 +8,9 @@ ghost use Rattle.pid_service.specs.KeptViews.{kept_by};
 ghost use Rattle.pid_service.specs.Registries.{connection, is_live as lives};
 
 use crate::registry::Registry;
-use sqlite::{Alter, Connection};
+use pid_tables::Database;
 
-impl<S: Alter + Drop> Registry<S> {
+impl<C: Database + Drop> Registry<C> {
     /// Whether the registry is live: one that has failed answers `Failed` until it is opened again.
     pub fn is_live(&self) -> bool
         ensures { result ≡ lives self.now }
@@ -28,11 +28,12 @@ impl<S: Alter + Drop> Registry<S> {
 
     /// Hands the connection back, outside a transaction. If the registry has failed, open the files
     /// again.
-    pub fn close(self) -> Connection<S>
+    pub fn close(self) -> C
         ensures same { result ≡ connection self }
-        ensures settled { result.in_transaction ≡ false }
+        ensures settled { (C.state result).in_transaction ≡ false }
         // Of a registry that shows a history the tables show it.
-        ensures shown { (h : History) → Shows S.Store self h → AtRest S.Store result (views_of h) }
+        ensures shown { (h : History) → Shows C.Database self h
+            → AtRest C.state result (views_of h) }
     {
         let Registry { tables, kept, .. } = self;
         drop(kept);

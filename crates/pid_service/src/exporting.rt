@@ -7,8 +7,7 @@ use crate::registry::Registry;
 use pid_ident::{Output, WriteFault, write_all};
 use pid_moderation::Refusal;
 use pid_service_laws::ExportFault;
-use pid_tables::{EachEnd, refusal_of};
-use sqlite::Alter;
+use pid_tables::{Database, EachEnd, refusal_of};
 
 fn export_fault(end: EachEnd<WriteFault>) -> ExportFault
     ensures { IsToldAs end result }
@@ -19,10 +18,10 @@ fn export_fault(end: EachEnd<WriteFault>) -> ExportFault
     }
 }
 
-impl<S: Alter + Drop> Registry<S> {
+impl<C: Database + Drop> Registry<C> {
     /// Writes the canonical text of all items as `export` does, but keeps none in memory.
     pub fn export_rows<W: Output>(&mut self, output: &mut W) -> Result<(), ExportFault>
-        ensures { IsExported S.Store W.Output self.old self.new output.old output.new result }
+        ensures { IsExported C.Database W.Output self.old self.new output.old output.new result }
     {
         if !self.live {
             return Err(ExportFault::Refused(Refusal::Failed));

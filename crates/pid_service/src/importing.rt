@@ -28,8 +28,7 @@ use pid_ident::{Account, Input, Key};
 use pid_moderation::{Act, Command, FILE_BYTES, Facts, File, Refusal, Reply};
 use pid_reader::{SkipEnd, SliceInput, skip_input};
 use pid_service_laws::ImportEnd;
-use pid_tables::{Early, Stop, import_file, judge_import};
-use sqlite::Alter;
+use pid_tables::{Early, Stop, WritableDatabase, judge_import};
 use std::alloc::Global;
 
 /// An import whose file is elsewhere.
@@ -102,7 +101,7 @@ fn stopping(refusal: Refusal) -> Refusal
     }
 }
 
-impl<S: Alter + Drop> Registry<S> {
+impl<C: WritableDatabase + Drop> Registry<C> {
     // Imports a file. What is kept of items is dropped before. At a fault the registry has failed.
     fn carry_in<I: Input>(
         &mut self,
@@ -111,21 +110,18 @@ impl<S: Alter + Drop> Registry<S> {
         command: &Command,
         input: &mut I,
     ) -> Result<Reply, ImportEnd>
-        ensures lasts { EndStays S.Store I.Input self.old self.new input.old input.new result }
+        ensures lasts { EndStays C.Database I.Input self.old self.new input.old input.new result }
         ensures obeyed { HasRead result (I.to_come input.old) (I.to_come input.new)
-            (CarriesText S.Store self.old self.new result facts.old items command.now) }
-        ensures caused { OverHistory S.Store self.old self.new (λ h. WhereOpen h command.now
+            (CarriesText C.Database self.old self.new result facts.old items command.now) }
+        ensures caused { OverHistory C.Database self.old self.new (λ h. WhereOpen h command.now
             facts.old items (IfErr result (OfRefusal (FaultStays (lives self.new))))) }
     {
         self.kept.forget_items();
-        match import_file(
-            &mut self.tables.conn,
-            self.alloc,
-            facts,
-            items,
-            command,
-            input,
-        ) {
+        match self
+            .tables
+            .conn
+            .import_file(self.alloc, facts, items, command, input)
+        {
             Ok(reply) => Ok(reply),
             Err(Stop::Body) => Err(ImportEnd::Body),
             Err(Stop::Refused(refusal)) => Err(ImportEnd::Refused(refusal)),
@@ -143,10 +139,10 @@ impl<S: Alter + Drop> Registry<S> {
         command: &Command,
         input: &mut I,
     ) -> Result<Reply, ImportEnd>
-        ensures lasts { EndStays S.Store I.Input self.old self.new input.old input.new result }
+        ensures lasts { EndStays C.Database I.Input self.old self.new input.old input.new result }
         ensures taken { HasRead result (I.to_come input.old) (I.to_come input.new)
-            (TakesText S.Store self.old self.new result command.now) }
-        ensures caused { CausesImport S.Store self.old self.new command.now
+            (TakesText C.Database self.old self.new result command.now) }
+        ensures caused { CausesImport C.Database self.old self.new command.now
             (λ faults. IfErr result (OfRefusal faults)) }
     {
         pid_moderation::laws::command_is_well_made(command); // proof only
@@ -168,7 +164,7 @@ impl<S: Alter + Drop> Registry<S> {
         key: Option<Key>,
         file: &[u8],
     ) -> Result<Reply, Refusal>
-        ensures { IsImported S.Store self.old self.new (import_of account key) file.now result }
+        ensures { IsImported C.Database self.old self.new (import_of account key) file.now result }
     {
         if !self.live {
             return Err(Refusal::Failed);

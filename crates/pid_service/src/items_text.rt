@@ -23,8 +23,7 @@ use crate::kept_text::{Extent, FIRST, KeptText, MOST_BYTES, extent_of};
 use pid_file::{opened_block, write_after, write_header};
 use pid_ident::{Output, Path, WriteFault};
 use pid_reader::{Entry, Never, Sink};
-use pid_tables::{EachEnd, TableFault, Tables};
-use sqlite::Alter;
+use pid_tables::{Database, EachEnd, TableFault, Tables};
 use std::alloc::Global;
 
 // The length of `S 1af4` and its LF.
@@ -215,12 +214,12 @@ pub(crate) struct ItemsText {
 
 // What `export_items` writes, by one walk over the items, of which each is lent by the connection.
 // It is kept after its first line, if that is there.
-fn walked_text<S: Alter + Drop>(
-    tables: &mut Tables<S>,
+fn walked_text<C: Database + Drop>(
+    tables: &mut Tables<C>,
     first: Option<GrowingText>,
 ) -> Result<ItemsText, TableFault>
     requires first { IfSome first (λ text. HasLines text (ended (header ∷ [])) []) }
-    ensures { ReadsIn S.Store tables.old tables.new result
+    ensures { ReadsIn C.Database tables.old tables.new result
         (λ v found. IsReadable v → IsCountedText found.bytes found.text v.items) }
 {
     let mut sink = TextSink {
@@ -239,11 +238,11 @@ fn walked_text<S: Alter + Drop>(
 
 /// What `export_items` writes. A text of more than 16,777,216 bytes is only counted, and so is one
 /// for which memory runs out.
-pub(crate) fn items_text<S: Alter + Drop>(
-    tables: &mut Tables<S>,
+pub(crate) fn items_text<C: Database + Drop>(
+    tables: &mut Tables<C>,
     alloc: Global,
 ) -> Result<ItemsText, TableFault>
-    ensures { ReadsIn S.Store tables.old tables.new result
+    ensures { ReadsIn C.Database tables.old tables.new result
         (λ v found. IsReadable v → IsCountedText found.bytes found.text v.items) }
 {
     match walked_text(tables, first_line(alloc)) {

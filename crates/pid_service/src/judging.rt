@@ -7,8 +7,7 @@ ghost use Rattle.pid_moderation.specs.Views.{views_of};
 ghost use Rattle.pid_service.specs.Steps.Judging.{Judges, JudgesCommand, OverFacts};
 
 use pid_moderation::{Change, Command, Facts, Refusal, Reply, decide, needs};
-use pid_tables::{Tables, refusal_of};
-use sqlite::Alter;
+use pid_tables::{Database, Tables, refusal_of};
 use std::alloc::Global;
 
 /// What comes of a command that is not refused.
@@ -40,12 +39,12 @@ fn judged_by(facts: &Facts, command: &Command) -> Result<Judged, Refusal>
 }
 
 /// Judges a command other than an import over the tables, which are only read.
-pub(crate) fn judge<S: Alter + Drop>(
-    tables: &mut Tables<S>,
+pub(crate) fn judge<C: Database + Drop>(
+    tables: &mut Tables<C>,
     alloc: Global,
     command: &Command,
 ) -> Result<Judged, Refusal>
-    ensures { Judges S.Store tables.old tables.new command.now result }
+    ensures { Judges C.Database tables.old tables.new command.now result }
 {
     match tables.gather(alloc, &command.account, &command.key, needs(command)) {
         Ok(facts) => {

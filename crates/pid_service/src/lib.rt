@@ -29,7 +29,6 @@ mod renewing;
 mod running;
 mod sessions;
 mod top;
-mod writing;
 
 pub use laws::{
     clauses_meet_sessions, commands_lead_on, first_openings_show_what_is_there, histories_are_kept,

@@ -3,10 +3,9 @@ use crate::registry::Registry;
 use pid_ident::{Name, Path};
 use pid_lookup::Names;
 use pid_moderation::Refusal;
-use pid_tables::refusal_of;
-use sqlite::Alter;
+use pid_tables::{Database, refusal_of};
 
-impl<S: Alter + Drop> Names for Registry<S> {
+impl<C: Database + Drop> Names for Registry<C> {
     ghost use Rattle.std.specs.Prelude.{◌≡◌, true};
     ghost use Rattle.pid_moderation.specs.History.{History};
     ghost use Rattle.pid_moderation.specs.Writes.{tree_of};
@@ -21,17 +20,17 @@ impl<S: Alter + Drop> Names for Registry<S> {
 
     ghost map_of = { tree_of };
 
-    ghost shows = { λ r h. Shows S.Store r h };
+    ghost shows = { λ r h. Shows C.Database r h };
 
-    ghost is_honest = { λ r. HasCleanDisk S.Store r };
+    ghost is_honest = { λ r. HasCleanDisk C.Database r };
 
     ghost may_give = { λ r f. MayGive (is_live r) f };
 
     ghost may_tell = { λ r. is_live r ≡ true };
 
-    ghost has_cause = { FaultIsCaused S.Store };
+    ghost has_cause = { FaultIsCaused C.Database };
 
-    ghost only_asked = { OnlyAsked S.Store };
+    ghost only_asked = { OnlyAsked C.Database };
 
     fn name_of(&mut self, path: &Path) -> Result<Option<Name>, Refusal> {
         if !self.live {

@@ -6,25 +6,24 @@ ghost use Rattle.pid_service.specs.Steps.Obeying.{LivesOrFails, WhereComes};
 use crate::importing::without_body_fault;
 use crate::judging::{Judged, judge};
 use crate::registry::Registry;
-use crate::writing::write;
 use pid_moderation::{Act, Command, Refusal, Reply, breaks_form};
 use pid_reader::SliceInput;
-use pid_tables::refusal_of;
-use sqlite::Alter;
+use pid_tables::{WritableDatabase, refusal_of};
 
-impl<S: Alter + Drop> Registry<S> {
+impl<C: WritableDatabase + Drop> Registry<C> {
     // Writes the change of a command that is accepted; at a fault the registry has failed. A reply
     // that was kept writes nothing.
     fn carry_out(&mut self, judged: &Judged) -> Result<Reply, Refusal>
-        ensures obeyed { WhereComes S.Store self.old judged.now (Obeys S.Store result self.new) }
+        ensures obeyed { WhereComes C.Database self.old judged.now
+            (Obeys C.Database result self.new) }
         ensures repeated { (reply : Reply) → judged.now ≡ Judged.Kept reply → result ≡ Ok reply }
-        ensures held { LivesOrFails S.Store result self.old self.new }
+        ensures held { LivesOrFails C.Database result self.old self.new }
     {
         match judged {
             Judged::Kept(reply) => Ok(*reply),
             Judged::Accepted { change, reply } => {
                 self.kept.follow(self.alloc, change);
-                match write(&mut self.tables.conn, self.alloc, change) {
+                match self.tables.conn.write(self.alloc, change) {
                     Ok(()) => Ok(*reply),
                     Err(fault) => {
                         self.live = false;
@@ -38,7 +37,7 @@ impl<S: Alter + Drop> Registry<S> {
 
     // Obeys a command that stays with the caller.
     pub(crate) fn obey_lent(&mut self, command: &Command) -> Result<Reply, Refusal>
-        ensures { IsObeyed S.Store self.old self.new command.now result }
+        ensures { IsObeyed C.Database self.old self.new command.now result }
     {
         pid_moderation::laws::command_is_well_made(command); // proof only
         if !self.live {

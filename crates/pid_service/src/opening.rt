@@ -17,8 +17,7 @@ ghost use Rattle.pid_service.specs.Steps.Opening.{IsMadeReady, JudgesTables};
 
 use crate::kept_views::KeptViews;
 use crate::registry::Registry;
-use pid_tables::{Step, TableFault, Tables, Version};
-use sqlite::{Alter, Connection};
+use pid_tables::{Database, Step, TableFault, Tables, Version, WritableDatabase};
 use std::alloc::Global;
 
 fn is_today(found: Option<Version>) -> bool
@@ -31,10 +30,10 @@ fn is_today(found: Option<Version>) -> bool
 }
 
 // Judges tables in the schema of today. There are no others after a migration.
-fn judge_tables<S: Alter + Drop>(tables: &mut Tables<S>, alloc: Global) -> Result<(), TableFault>
-    ensures { JudgesTables S.Store tables.old tables.new result }
+fn judge_tables<C: Database + Drop>(tables: &mut Tables<C>, alloc: Global) -> Result<(), TableFault>
+    ensures { JudgesTables C.Database tables.old tables.new result }
 {
-    pid_tables::laws::all_is_committed_outside_transactions(&tables.conn); // proof only
+    let _outside = tables.conn.is_autocommit(); // proof only
     match tables.check(alloc) {
         Err(fault) => Err(fault),
         Ok(found) => {
@@ -48,10 +47,13 @@ fn judge_tables<S: Alter + Drop>(tables: &mut Tables<S>, alloc: Global) -> Resul
 }
 
 // Makes the tables if there is none, moves those of schema 1, and judges them.
-fn make_ready<S: Alter + Drop>(tables: &mut Tables<S>, alloc: Global) -> Result<(), TableFault>
-    ensures { IsMadeReady S.Store tables.old tables.new result }
+fn make_ready<C: WritableDatabase + Drop>(
+    tables: &mut Tables<C>,
+    alloc: Global,
+) -> Result<(), TableFault>
+    ensures { IsMadeReady C.Database tables.old tables.new result }
 {
-    pid_tables::laws::all_is_committed_outside_transactions(&tables.conn); // proof only
+    let _outside = tables.conn.is_autocommit(); // proof only
     match tables.migrate(alloc) {
         Err(fault) => Err(fault),
         Ok(_) => judge_tables(tables, alloc),
@@ -67,19 +69,18 @@ fn make_ready<S: Alter + Drop>(tables: &mut Tables<S>, alloc: Global) -> Result<
 /// transaction gets `Store` and is left alone. Other tables, indexes and views are allowed: that is
 /// tested, not promised. After `Memory` and `Store` the connection that comes back shows what it
 /// showed, and the call may be made again.
-pub fn open<S: Alter + Drop>(
+pub fn open<C: WritableDatabase + Drop>(
     alloc: Global,
-    conn: Connection<S>,
-) -> Result<Registry<S>, (TableFault, Connection<S>)>
-    ensures busy { conn.in_transaction ≡ true → result ≡ Err (TableFault.Store, conn) }
-    ensures history { OpensTo S.Store conn result }
-    ensures registry { conn.in_transaction ≡ false → OpensRegistry S.Store conn result }
-    ensures at_once { conn.in_transaction ≡ false
-        → OpensAtOnce S.Store conn (connection_left S.Store result)
-        (opening_end S.Store result) }
-    ensures explains { conn.in_transaction ≡ false
-        → ExplainsOpening S.Store conn (connection_left S.Store result)
-        (opening_end S.Store result) }
+    conn: C,
+) -> Result<Registry<C>, (TableFault, C)>
+    ensures busy { (C.state conn).in_transaction ≡ true → result ≡ Err (TableFault.Store, conn) }
+    ensures history { OpensTo C.Database conn result }
+    ensures registry { (C.state conn).in_transaction ≡ false
+        → OpensRegistry C.Database conn result }
+    ensures at_once { (C.state conn).in_transaction ≡ false
+        → OpensAtOnce C.state conn (connection_left result) (opening_end result) }
+    ensures explains { (C.state conn).in_transaction ≡ false
+        → ExplainsOpening C.state conn (connection_left result) (opening_end result) }
 {
     if !conn.is_autocommit() {
         return Err((TableFault::Store, conn));
@@ -109,15 +110,15 @@ pub fn open<S: Alter + Drop>(
 /// The history stays the same. That of schema 1 is before the mark: each name has the number 0,
 /// and so has the revision. If it fails, it hands the connection back, as `open` does, with the
 /// same faults.
-pub fn migrate<S: Alter + Drop>(
+pub fn migrate<C: WritableDatabase + Drop>(
     alloc: Global,
-    conn: Connection<S>,
-) -> Result<(Connection<S>, Step), (TableFault, Connection<S>)>
-    ensures busy { conn.in_transaction ≡ true → result ≡ Err (TableFault.Store, conn) }
-    ensures history { MovesTo S.Store conn result }
-    ensures at_once { conn.in_transaction ≡ false → MovesAtOnce S.Store conn result }
-    ensures shown { conn.in_transaction ≡ false → MovesShown S.Store conn result }
-    ensures judged { conn.in_transaction ≡ false → MovesJudged S.Store conn result }
+    conn: C,
+) -> Result<(C, Step), (TableFault, C)>
+    ensures busy { (C.state conn).in_transaction ≡ true → result ≡ Err (TableFault.Store, conn) }
+    ensures history { MovesTo C.state conn result }
+    ensures at_once { (C.state conn).in_transaction ≡ false → MovesAtOnce C.state conn result }
+    ensures shown { (C.state conn).in_transaction ≡ false → MovesShown C.state conn result }
+    ensures judged { (C.state conn).in_transaction ≡ false → MovesJudged C.state conn result }
 {
     if !conn.is_autocommit() {
         return Err((TableFault::Store, conn));

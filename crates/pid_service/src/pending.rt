@@ -8,18 +8,17 @@ ghost use Rattle.pid_service.specs.Steps.Asking.{Finds, ReadsIn};
 use crate::pending_numbers::{numbers_above, read_pending_numbers};
 use crate::registry::Registry;
 use pid_moderation::{PAGE, Pending, Queued, Refusal};
-use pid_tables::{TableFault, Tables, refusal_of};
-use sqlite::Alter;
+use pid_tables::{Database, TableFault, Tables, refusal_of};
 use std::alloc::Global;
 
 /// The page by the numbers that are kept; if none are, by a walk over all submissions.
-pub(crate) fn pending_by<S: Alter + Drop>(
-    tables: &mut Tables<S>,
+pub(crate) fn pending_by<C: Database + Drop>(
+    tables: &mut Tables<C>,
     alloc: Global,
     numbers: &Option<Vec<u32>>,
     after: u32,
 ) -> Result<Vec<Pending>, TableFault>
-    ensures { ReadsIn S.Store tables.old tables.new result
+    ensures { ReadsIn C.Database tables.old tables.new result
         (λ v page. HoldsPending numbers.now v
         → map told_of page.items ≡ pending_in PAGE after v) }
 {
@@ -33,13 +32,13 @@ pub(crate) fn pending_by<S: Alter + Drop>(
 }
 
 /// The queue by the numbers that are kept; if none are, by a walk over all submissions.
-pub(crate) fn queue_by<S: Alter + Drop>(
-    tables: &mut Tables<S>,
+pub(crate) fn queue_by<C: Database + Drop>(
+    tables: &mut Tables<C>,
     alloc: Global,
     numbers: &Option<Vec<u32>>,
     after: u32,
 ) -> Result<Vec<Queued>, TableFault>
-    ensures { ReadsIn S.Store tables.old tables.new result
+    ensures { ReadsIn C.Database tables.old tables.new result
         (λ v queue. HoldsPending numbers.now v
         → map queued_of queue.items ≡ queue_in PAGE after v) }
 {
@@ -52,11 +51,11 @@ pub(crate) fn queue_by<S: Alter + Drop>(
     }
 }
 
-impl<S: Alter + Drop> Registry<S> {
+impl<C: Database + Drop> Registry<C> {
     // Reads the numbers of what is pending, unless that was done, and keeps them if memory is there
     // for them.
     pub(crate) fn keep_pending(&mut self) -> Result<(), Refusal>
-        ensures { Finds S.Store self.old self.new result (λ h _. Unit {0}) }
+        ensures { Finds C.Database self.old self.new result (λ h _. Unit {0}) }
     {
         if !self.live {
             return Err(Refusal::Failed);

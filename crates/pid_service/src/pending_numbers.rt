@@ -22,8 +22,7 @@ ghost use Rattle.pid_service.specs.Steps.PendingNumbers.{its_number};
 ghost use Rattle.pid_service.specs.Steps.Asking.{ReadsIn};
 
 use pid_moderation::{PAGE, Pending};
-use pid_tables::{TableFault, Tables};
-use sqlite::Alter;
+use pid_tables::{Database, TableFault, Tables};
 use std::alloc::Global;
 
 // The most numbers that are kept, and the pages that have them.
@@ -63,11 +62,11 @@ fn last_number(after: u32, page: &[Pending]) -> u32
 
 /// The numbers of what is pending, rising, by pages of submissions. None if they are too many, or if
 /// there is no memory for them.
-pub(crate) fn read_pending_numbers<S: Alter + Drop>(
-    tables: &mut Tables<S>,
+pub(crate) fn read_pending_numbers<C: Database + Drop>(
+    tables: &mut Tables<C>,
     alloc: Global,
 ) -> Result<Option<Vec<u32>>, TableFault>
-    ensures { ReadsIn S.Store tables.old tables.new result
+    ensures { ReadsIn C.Database tables.old tables.new result
         (λ v numbers. HoldsPending numbers v) }
 {
     let mut numbers = Vec::new(alloc);
@@ -101,12 +100,12 @@ fn count_page(count: u32, page: &[Pending]) -> Option<u32>
 
 /// How many submissions are pending: their numbers are counted, if they are kept, and else pages of
 /// them.
-pub(crate) fn count_pending<S: Alter + Drop>(
-    tables: &mut Tables<S>,
+pub(crate) fn count_pending<C: Database + Drop>(
+    tables: &mut Tables<C>,
     alloc: Global,
     numbers: &Option<Vec<u32>>,
 ) -> Result<u32, TableFault>
-    ensures { ReadsIn S.Store tables.old tables.new result
+    ensures { ReadsIn C.Database tables.old tables.new result
         (λ v n. HoldsPending numbers.now v → n ≡ length (pending_above 0 v)) }
 {
     if let Some(numbers) = numbers {

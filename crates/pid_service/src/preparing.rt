@@ -6,7 +6,7 @@ ghost use Rattle.pid_service.specs.Steps.Asking.{Finds};
 use crate::registry::Registry;
 use pid_moderation::{Refusal, Status};
 use pid_service_laws::RegistryQueries;
-use sqlite::Alter;
+use pid_tables::WritableDatabase;
 
 // How many commands change fewer items than a page has, if none is an import.
 const COMMANDS: u64 = 99;
@@ -44,10 +44,10 @@ fn unless_short<T: Drop>(found: Result<T, Refusal>) -> Result<(), Refusal>
     }
 }
 
-impl<S: Alter + Drop> Registry<S> {
+impl<C: WritableDatabase + Drop> Registry<C> {
     // Keeps a part, if memory is there for it.
     fn keep(&mut self, part: &Part) -> Result<(), Refusal>
-        ensures { Finds S.Store self.old self.new result (λ h _. Unit {0}) }
+        ensures { Finds C.Database self.old self.new result (λ h _. Unit {0}) }
     {
         match part {
             Part::Pending => self.keep_pending(),
@@ -71,7 +71,7 @@ impl<S: Alter + Drop> Registry<S> {
     /// It answers nothing, and to be out of memory is no refusal: what does not fit is not kept, and
     /// is read when it is asked for. A registry that has failed answers `Failed`.
     pub fn prepare(&mut self) -> Result<(), Refusal>
-        ensures { Answers S.Store self.old self.new result (λ h _. Unit {0}) }
+        ensures { Answers C.Database self.old self.new result (λ h _. Unit {0}) }
     {
         if !self.live {
             return Err(Refusal::Failed);

@@ -5,8 +5,7 @@ ghost use Rattle.pid_service.specs.Steps.Asking.{Finds, answered_as};
 use crate::registry::Registry;
 use pid_moderation::Refusal;
 use pid_tables::searches::Searches;
-use pid_tables::{TableFault, refusal_of};
-use sqlite::Alter;
+use pid_tables::{Database, TableFault, refusal_of};
 
 /// What was found in the tables, or the refusal that their fault is answered as.
 pub(crate) fn fault_as_refusal<T>(found: Result<T, TableFault>) -> Result<T, Refusal>
@@ -18,11 +17,11 @@ pub(crate) fn fault_as_refusal<T>(found: Result<T, TableFault>) -> Result<T, Ref
     }
 }
 
-impl<S: Alter + Drop> Registry<S> {
+impl<C: Database + Drop> Registry<C> {
     // Reads the numbers of all submissions, if they are wanted, unless that was done, and keeps them
     // if memory is there for them.
     pub(crate) fn keep_numbers(&mut self, wanted: bool) -> Result<(), Refusal>
-        ensures { Finds S.Store self.old self.new result (λ h _. Unit {0}) }
+        ensures { Finds C.Database self.old self.new result (λ h _. Unit {0}) }
     {
         if !self.live {
             return Err(Refusal::Failed);

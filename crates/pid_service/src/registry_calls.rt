@@ -19,10 +19,10 @@ use pid_ident::{Name, Output, Path};
 use pid_lookup::{Answer, Args, LookupRefusal, lookup};
 use pid_moderation::{Command, Refusal, Reply};
 use pid_service_laws::{ExportFault, RegistryCalls, RegistryQueries};
-use sqlite::Alter;
+use pid_tables::WritableDatabase;
 
-impl<S: Alter + Drop> RegistryCalls for Registry<S> {
-    ghost showing = { registry_showing S.Store };
+impl<C: WritableDatabase + Drop> RegistryCalls for Registry<C> {
+    ghost showing = { registry_showing C.Database };
 
     ghost is_live = { λ r. registry_is_live r };
 
@@ -38,9 +38,9 @@ impl<S: Alter + Drop> RegistryCalls for Registry<S> {
     /// of a registry that stays live and shows what it did, or has failed. Every other refusal is
     /// that of the judgement, and changes nothing.
     fn obey(&mut self, command: Command) -> Result<Reply, Refusal>
-        ensures calls { Does (registry_showing S.Store) self.old
+        ensures calls { Does (registry_showing C.Database) self.old
             (obeyed (asks command) result (registry_is_live self.new)) self.new }
-        ensures own { IsObeyed S.Store self.old self.new command result }
+        ensures own { IsObeyed C.Database self.old self.new command result }
     {
         let answer = self.obey_lent(&command);
         drop(command);
@@ -49,7 +49,7 @@ impl<S: Alter + Drop> RegistryCalls for Registry<S> {
 
     /// It asks the tables, whatever names are kept in memory.
     fn read(&mut self, path: &Path) -> Result<Option<Name>, Refusal>
-        ensures { Answers S.Store self.old self.new result
+        ensures { Answers C.Database self.old self.new result
             (λ h name. name ≡ name_at (path_text path.now) (items_of h)) }
     {
         if !self.live {
@@ -65,7 +65,7 @@ impl<S: Alter + Drop> RegistryCalls for Registry<S> {
         args: &Args,
         size: u32,
     ) -> Result<Answer, LookupRefusal<Refusal>>
-        ensures { IsLookedUp S.Store self.old self.new flags args.now size result }
+        ensures { IsLookedUp C.Database self.old self.new flags args.now size result }
     {
         if !self.live {
             return Err(LookupRefusal::Names(Refusal::Failed));
@@ -81,7 +81,7 @@ impl<S: Alter + Drop> RegistryCalls for Registry<S> {
     /// text was written, which may end within a line. In all of these cases the registry shows the
     /// history as before, and is live or has failed as before.
     fn export<O: Output>(&mut self, out: &mut O) -> Result<(), ExportFault>
-        ensures { IsExported S.Store O.Output self.old self.new out.old out.new result }
+        ensures { IsExported C.Database O.Output self.old self.new out.old out.new result }
     {
         // So the text is kept in memory and goes out whole. If it can't be, it goes out in parts.
         let _ = self.export_length();

@@ -35,12 +35,11 @@ use pid_moderation::{
     SubmissionPage,
 };
 use pid_service_laws::{ImportEnd, RegistryQueries};
-use pid_tables::refusal_of;
-use sqlite::Alter;
+use pid_tables::{WritableDatabase, refusal_of};
 
-impl<S: Alter + Drop> RegistryQueries for Registry<S> {
+impl<C: WritableDatabase + Drop> RegistryQueries for Registry<C> {
     fn rank(&mut self, who: &Account) -> Result<Option<Rank>, Refusal>
-        ensures { Answers S.Store self.old self.new result
+        ensures { Answers C.Database self.old self.new result
             (λ h rank. rank ≡ rank_of who.now h) }
     {
         if !self.live {
@@ -53,7 +52,7 @@ impl<S: Alter + Drop> RegistryQueries for Registry<S> {
     /// and the classes are kept in memory until one of them is written. The others are read from
     /// the text of all items, if that is kept. Below a path that has no item there is none.
     fn children(&mut self, above: Option<Path>) -> Result<Vec<Item>, Refusal>
-        ensures { Answers S.Store self.old self.new result
+        ensures { Answers C.Database self.old self.new result
             (λ h items. map pair_of items.items
             ≡ children_of (option_map path_text above) (items_of h)) }
     {
@@ -74,7 +73,7 @@ impl<S: Alter + Drop> RegistryQueries for Registry<S> {
     }
 
     fn submission(&mut self, number: u32) -> Result<Discussion, Refusal>
-        ensures { AnswersIfThere S.Store self.old self.new result
+        ensures { AnswersIfThere C.Database self.old self.new result
             (λ h. discussion_in (views_of h) number) discussion_of }
     {
         if !self.live {
@@ -89,7 +88,7 @@ impl<S: Alter + Drop> RegistryQueries for Registry<S> {
 
     /// At most `PAGE` remarks. What comes before them is not read.
     fn remarks(&mut self, number: u32, after: u32) -> Result<RemarkPage, Refusal>
-        ensures { AnswersIfThere S.Store self.old self.new result
+        ensures { AnswersIfThere C.Database self.old self.new result
             (λ h. remark_page_in PAGE number after (views_of h)) remark_page_of }
     {
         if !self.live {
@@ -113,7 +112,7 @@ impl<S: Alter + Drop> RegistryQueries for Registry<S> {
         author: Option<&Account>,
         before: u32,
     ) -> Result<SubmissionPage, Refusal>
-        ensures { Answers S.Store self.old self.new result
+        ensures { Answers C.Database self.old self.new result
             (λ h page. submission_page_of page ≡ sought_page (record {
               path = option_copied path.entry;
               author = option_copied author.entry;
@@ -136,7 +135,7 @@ impl<S: Alter + Drop> RegistryQueries for Registry<S> {
     /// pending; after that a page costs what it has, whatever was decided. If memory runs out for
     /// the numbers, or if they are more than 10,000,000, each page is found by a walk.
     fn pending(&mut self, after: u32) -> Result<Vec<Pending>, Refusal>
-        ensures { Answers S.Store self.old self.new result
+        ensures { Answers C.Database self.old self.new result
             (λ h page. map told_of page.items ≡ pending_in PAGE after (views_of h)) }
     {
         match self.keep_pending() {
@@ -151,7 +150,7 @@ impl<S: Alter + Drop> RegistryQueries for Registry<S> {
     }
 
     fn queue(&mut self, after: u32) -> Result<Vec<Queued>, Refusal>
-        ensures { Answers S.Store self.old self.new result
+        ensures { Answers C.Database self.old self.new result
             (λ h queue. map queued_of queue.items ≡ queue_in PAGE after (views_of h)) }
     {
         match self.keep_pending() {
@@ -174,7 +173,7 @@ impl<S: Alter + Drop> RegistryQueries for Registry<S> {
     /// then no later question with the same number or a greater one reads the items. An item that a
     /// command writes has its place there. If the page gets full, what changed first is dropped.
     fn changes(&mut self, since: u64, after: Option<&Path>) -> Result<Changes, Refusal>
-        ensures { Answers S.Store self.old self.new result
+        ensures { Answers C.Database self.old self.new result
             (λ h changes. page_of changes
             ≡ changes_in PAGE since (start_text (option_copied after.entry)) (views_of h)) }
     {
@@ -204,7 +203,7 @@ impl<S: Alter + Drop> RegistryQueries for Registry<S> {
     /// The numbers of what is pending and of accounts are kept in memory once they were read; the
     /// other counts are in the tables.
     fn status(&mut self) -> Result<Status, Refusal>
-        ensures { Answers S.Store self.old self.new result
+        ensures { Answers C.Database self.old self.new result
             (λ h status. registry_status_of status ≡ status_of_registry h) }
     {
         match self.keep_pending() {
@@ -227,7 +226,7 @@ impl<S: Alter + Drop> RegistryQueries for Registry<S> {
     /// If the text is not kept in memory the items are read one by one, and it is kept from then on:
     /// up to 16,777,216 bytes, if memory is there for them.
     fn export_length(&mut self) -> Result<u64, Refusal>
-        ensures { Answers S.Store self.old self.new result
+        ensures { Answers C.Database self.old self.new result
             (λ h n. n ≡ length (print (tree_of h))) }
     {
         if !self.live {
@@ -258,10 +257,10 @@ impl<S: Alter + Drop> RegistryQueries for Registry<S> {
         ensures failed { lives self.old ≡ false → AnswersFailed result × (self.new ≡ self.old) }
         // An import of what was read of the input is obeyed.
         ensures obeyed { HasRead result (I.to_come input.old) (I.to_come input.new) (λ text.
-            ObeysFile (registry_showing S.Store) (λ r. lives r) self.old self.new result
+            ObeysFile (registry_showing C.Database) (λ r. lives r) self.old self.new result
             (import_of account key (file_reading text))) }
         ensures reads { InputIsRead I.Input input.old input.new result }
-        ensures lasts { EndLasts S.Store self.old self.new (import_of account key) result }
+        ensures lasts { EndLasts C.Database self.old self.new (import_of account key) result }
     {
         if !self.live {
             return answer_past(false, Err(Refusal::Failed), input);

@@ -6,7 +6,7 @@ ghost use Rattle.pid_service.specs.Steps.Running.{fault_in};
 
 use crate::registry::Registry;
 use pid_moderation::{Command, Refusal, Reply};
-use sqlite::Alter;
+use pid_tables::WritableDatabase;
 
 /// What came of a list of commands.
 #[derive(Drop)]
@@ -29,14 +29,14 @@ fn fault_of(outcome: Result<Reply, Refusal>) -> Option<Refusal>
     }
 }
 
-impl<S: Alter + Drop> Registry<S> {
+impl<C: WritableDatabase + Drop> Registry<C> {
     /// Obeys commands in order, up to the first at which memory runs out or the store fails.
     ///
     /// Each is obeyed as by `obey`, whose clauses say what its reply and the fault stand for. The
     /// memory for the replies is taken first, so that none is lost. A registry that has failed obeys
     /// nothing, with the fault `Failed`.
     pub fn run(&mut self, commands: &[Command]) -> RunReport
-        ensures { IsRun S.Store self.old self.new commands.now result }
+        ensures { IsRun C.Database self.old self.new commands.now result }
     {
         if !self.live {
             return RunReport {

@@ -21,7 +21,7 @@ ghost use Rattle.pid_service.specs.SessionLaws.{
 };
 
 use pid_ident::Output;
-use sqlite::Alter;
+use pid_tables::Database;
 
 /// The clauses of a call say what a session asks of it.
 ///
@@ -30,30 +30,30 @@ use sqlite::Alter;
 /// `read`, `rank`, `children`, `submission`, `submissions`, `pending`, `queue`, `changes`,
 /// `status`, `lookup`, `name_of`, `export` and `export_length`. A command is in doubt if its fault
 /// left the registry failed; if the registry stayed live, the command counts as not sent.
-pub fn clauses_meet_sessions<S: Alter + Drop>()
-    ensures { CallsMeetSessions S.Store }
+pub fn clauses_meet_sessions<C: Database + Drop>()
+    ensures { CallsMeetSessions C.Database }
 {}
 
 /// The first opening. A database without tables has what the history of a new registry shows, and
 /// one that was just opened on tables has the history that they show, in whichever schema. The
 /// registry that is opened there shows that history.
-pub fn first_openings_show_what_is_there<S: Alter + Drop>()
-    ensures { FirstOpenings S.Store }
+pub fn first_openings_show_what_is_there<C: Database + Drop>()
+    ensures { FirstOpenings C.Database }
 {}
 
 /// A migration, or an opening that fails. The tables that a migration leaves show the history in
 /// the schema of today. If either failed, the fault is `Memory` or `Store`, never damage or a later
 /// schema, and the connection that comes back shows the same history: the call may be made again.
-pub fn histories_are_kept<S: Alter + Drop>()
-    ensures { HistoriesAreKept S.Store }
+pub fn histories_are_kept<C: Database + Drop>()
+    ensures { HistoriesAreKept C.Database }
 {}
 
 /// Tables of schema 1 keep no revision and no number of a change. Let a database be just opened on
 /// tables that otherwise show a history: it has that history moved, with its mark after all its
 /// commands. If that is reached (`taken_histories_are_reached`),
 /// `first_openings_show_what_is_there` and `histories_are_kept` go on from there.
-pub fn migrations_find_histories<S: Alter + Drop>()
-    ensures { EarlierTablesShow S.Store }
+pub fn migrations_find_histories<C: Database + Drop>()
+    ensures { EarlierTablesShow C.Database }
 {}
 
 /// From the end of a session to the next opening, which may be over another store: each process
@@ -63,15 +63,15 @@ pub fn migrations_find_histories<S: Alter + Drop>()
 /// hands its own connection back. While the disk of that connection returns what was written,
 /// either has the tables that the registry showed, or those of one of the two histories between
 /// which it had failed, and a registry that is opened there shows them.
-pub fn openings_find_histories<S: Alter + Drop, T: Alter + Drop>()
-    ensures { OpeningsShowAgain S.Store T.Store }
+pub fn openings_find_histories<C: Database + Drop, D: Database + Drop>()
+    ensures { OpeningsShowAgain C.Database D.Database }
 {}
 
 /// What keeps a history (a stop, a migration, an opening that fails) may come between the end of a
 /// session and the next opening, as often as it likes: the tables are still what the registry
 /// showed. Such an opening begins no session.
-pub fn histories_are_kept_between<S: Alter + Drop, T: Alter + Drop, U: Alter + Drop>()
-    ensures { KeepsBetween S.Store T.Store U.Store }
+pub fn histories_are_kept_between<C: Database + Drop, D: Database + Drop, E: Database + Drop>()
+    ensures { KeepsBetween C.Database D.Database E.Database }
 {}
 
 /// The crash prefix, session by session. Let the first registry show a history, that without
@@ -83,8 +83,8 @@ pub fn histories_are_kept_between<S: Alter + Drop, T: Alter + Drop, U: Alter + D
 ///
 /// That text is what `export` writes of a registry that shows the history, and `lookup` answers
 /// over the same tree. All while the disk returns what was written.
-pub fn reopened_registries_show_prefixes<S: Alter + Drop, T: Alter + Drop>()
-    ensures { ReopeningsShowPrefixes S.Store T.Store }
+pub fn reopened_registries_show_prefixes<C: Database + Drop, D: Database + Drop>()
+    ensures { ReopeningsShowPrefixes C.Database D.Database }
 {}
 
 /// The headline: sessions on a registry lead to its end, which may be a stop anywhere; openings that
@@ -93,13 +93,13 @@ pub fn reopened_registries_show_prefixes<S: Alter + Drop, T: Alter + Drop>()
 /// whose tree its printed text reads back to, and to no other. A whole export of it writes that
 /// text, and a look-up answers the text that the flags define over that tree. What is shown begins
 /// the law again, one session later. All while the disk returns what was written.
-pub fn openings_tell_prefixes<S: Alter + Drop, T: Alter + Drop, O: Output>()
-    ensures { OpeningsTellPrefixes S.Store T.Store O.Output }
+pub fn openings_tell_prefixes<C: Database + Drop, D: Database + Drop, O: Output>()
+    ensures { OpeningsTellPrefixes C.Database D.Database O.Output }
 {}
 
 /// A command under a key was in doubt as a registry failed, and after the next opening it is sent
 /// again, as the first with an outcome. Then its outcome is that of the judgement before the doubt,
 /// and the registry shows the history after the one command, whichever way the doubt went.
-pub fn repeats_end_doubts<S: Alter + Drop, T: Alter + Drop>()
-    ensures { RepeatsEndDoubts S.Store T.Store }
+pub fn repeats_end_doubts<C: Database + Drop, D: Database + Drop>()
+    ensures { RepeatsEndDoubts C.Database D.Database }
 {}

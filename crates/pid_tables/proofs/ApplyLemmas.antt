@@ -8,10 +8,20 @@ use Rattle.pid_moderation.specs.declared.change.Effect.TheVariants.{Nothing, Ran
 use Rattle.pid_moderation.specs.declared.change.Receipt.{Receipt}
 use Rattle.pid_moderation.specs.Changes.{affected, keeping, changed, FitsEffect, FitsReceipt}
 use Rattle.pid_moderation.specs.Views.{Views}
-use Rattle.pid_tables.specs.Rows.Shows.{Counts, ShowsCounting, Shows, counts_of}
+use Rattle.pid_tables.specs.Rows.Shows.{Counts, Shows, counts_of}
+use Rattle.pid_tables.specs.Rows.Steps.Shows.{ShowsCounting}
 use Rattle.pid_tables.specs.Rows.Steps.Writes.{with_revision}
-use Rattle.pid_tables.specs.Applies.{CountsFit}
+use Rattle.pid_tables.specs.Steps.Fits.{CountsFit}
 use Rattle.pid_tables.specs.Steps.Applies.{recounted}
+
+-- the counts of the views are those that a change asks for
+pub counted : (e : Effect) (v : Views) → CountsFit e (counts_of v) v
+counted Nothing v = refl
+counted (Ranked who rank is_new) v = refl
+counted (Submitted number author path proposal note) v = refl
+counted (Remarked number place author text) v = refl
+counted (Decided number state write) v = refl
+counted (Imported items) v = refl
 
 -- meta has the counts of the changed views
 pub recounted_is : (n : ℕ) (e : Effect) (c : Counts) (v : Views) → CountsFit e c v → FitsEffect e v → recounted e c ≡ counts_of (affected n e v)

@@ -17,7 +17,8 @@ use Rattle.pid_tables.proofs.OfRows.GoingLemmas.{earlier}
 use Rattle.pid_tables.proofs.OfRows.LeaveLemmas.{on_err, shows_found}
 use Rattle.pid_tables.proofs.OfRows.OnlyReading.{reads_then}
 use Rattle.pid_tables.specs.AtOnce.{IsCommitted, IsOneStep, IsTakenBack, WritesAtOnce}
-use Rattle.pid_tables.specs.Creation.{AreMade, IsUndone, RestsBare}
+use Rattle.pid_tables.specs.Creation.{AreMade, RestsBare}
+use Rattle.pid_tables.specs.Steps.Commits.{IsUndone}
 use Rattle.pid_tables.proofs.MoveLemmas.{all_err, never_told, or_never}
 
 -- ---- reads

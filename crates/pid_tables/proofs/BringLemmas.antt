@@ -3,11 +3,9 @@ use Rattle.std.proofs.Common.{◌≡◌, inl, inr, ℕ, List, true, false, None,
 use Rattle.std.proofs.lemmas.Bool.{cases_Bool}
 use Rattle.sqlite.specs.Change.{is_used}
 use Rattle.sqlite.specs.Effect.{Database}
-use Rattle.sqlite.specs.Held.{Held, state}
 use Rattle.sqlite.specs.State.{State, HasCleanDisk, Survives}
 use Rattle.sqlite.specs.Tree.{Trees}
 use Rattle.sqlite_rules.specs.Lists.{Has}
-use Rattle.sqlite_trees.specs.declared.store.Store.{Ghosts}
 use Rattle.pid_moderation.specs.History.{new_history}
 use Rattle.pid_moderation.specs.Views.{Views, views_of}
 use Rattle.pid_tables.specs.declared.rows.fault.TableFault.{TableFault}
@@ -40,25 +38,25 @@ use Rattle.pid_tables.proofs.StandLemmas.{standing_latest}
 
 -- ---- what was found
 
-module _ {S : Type 0} (g : Ghosts S) (old new : Held S) (found : Option Version) (r : Result Step TableFault) where
-  pub as_none : found ≡ None → BringsNone g old new r → BringsFound g found old new r
-  as_none is brings = subst (λ f. BringsFound g f old new r) (sym is) brings
+module _ {S : Type 0} (state : S → State) (old new : S) (found : Option Version) (r : Result Step TableFault) where
+  pub as_none : found ≡ None → BringsNone state old new r → BringsFound state found old new r
+  as_none is brings = subst (λ f. BringsFound state f old new r) (sym is) brings
 
-  pub as_one : found ≡ Some One → BringsOne g old new r → BringsFound g found old new r
-  as_one is brings = subst (λ f. BringsFound g f old new r) (sym is) brings
+  pub as_one : found ≡ Some One → BringsOne state old new r → BringsFound state found old new r
+  as_one is brings = subst (λ f. BringsFound state f old new r) (sym is) brings
 
-  pub as_two : found ≡ Some Two → MatchResult r (λ _. new ≡ old) (λ _. ⊥) → BringsFound g found old new r
-  as_two is brings = subst (λ f. BringsFound g f old new r) (sym is) brings
+  pub as_two : found ≡ Some Two → MatchResult r (λ _. new ≡ old) (λ _. ⊥) → BringsFound state found old new r
+  as_two is brings = subst (λ f. BringsFound state f old new r) (sym is) brings
 
-  module _ (brings : BringsFound g found old new r) where
-    pub of_none : found ≡ None → BringsNone g old new r
-    of_none is = subst (λ f. BringsFound g f old new r) is brings
+  module _ (brings : BringsFound state found old new r) where
+    pub of_none : found ≡ None → BringsNone state old new r
+    of_none is = subst (λ f. BringsFound state f old new r) is brings
 
-    pub of_one : found ≡ Some One → BringsOne g old new r
-    of_one is = subst (λ f. BringsFound g f old new r) is brings
+    pub of_one : found ≡ Some One → BringsOne state old new r
+    of_one is = subst (λ f. BringsFound state f old new r) is brings
 
     pub of_two : found ≡ Some Two → MatchResult r (λ _. new ≡ old) (λ _. ⊥)
-    of_two is = subst (λ f. BringsFound g f old new r) is brings
+    of_two is = subst (λ f. BringsFound state f old new r) is brings
 
 -- ---- no table
 
@@ -83,18 +81,18 @@ with_step P Q what found (Ok x) is step h = (step ∙ ap step_for is, h)
 with_step P Q what found (Err e) is step h = h
 
 -- what is made of the database that was read before
-made_before : {S : Type 0} (g : Ghosts S) (statements : List Statement) (old mid : Held S) → OnlyReads (state g old) (state g mid) → (IsTrue (state g mid).is_open → (state g mid).now ≡ (state g old).now) → (db : Trees) → IsMadeBy g statements mid db → IsMadeBy g statements old db
-made_before g statements old mid reads same db is = record { was_open = reads.was_open is.was_open; first = is.first; same = is.same ∙ same is.was_open; last = is.last; carried = is.carried; made = is.made }
+made_before : {S : Type 0} (state : S → State) (statements : List Statement) (old mid : S) → OnlyReads (state old) (state mid) → (IsTrue (state mid).is_open → (state mid).now ≡ (state old).now) → (db : Trees) → IsMadeBy state statements mid db → IsMadeBy state statements old db
+made_before state statements old mid reads same db is = record { was_open = reads.was_open is.was_open; first = is.first; same = is.same ∙ same is.was_open; last = is.last; carried = is.carried; made = is.made }
 
-pub reads_then_kept : {S X E : Type 0} (g : Ghosts S) (statements : List Statement) (old mid new : Held S) (r : Result X E) → OnlyReads (state g old) (state g mid) → (IsTrue (state g mid).is_open → (state g mid).now ≡ (state g old).now)
-    → OnOk r (IsCommitted (IsMadeBy g statements mid) (state g new)) → OnOk r (IsCommitted (IsMadeBy g statements old) (state g new))
-reads_then_kept g statements old mid new (Ok x) reads same kept = record { is_open = kept.is_open; sees = made_before g statements old mid reads same (state g new).now.trees kept.sees; leaves = kept.leaves }
-reads_then_kept g statements old mid new (Err e) reads same kept = tt
+pub reads_then_kept : {S X E : Type 0} (state : S → State) (statements : List Statement) (old mid new : S) (r : Result X E) → OnlyReads (state old) (state mid) → (IsTrue (state mid).is_open → (state mid).now ≡ (state old).now)
+    → OnOk r (IsCommitted (IsMadeBy state statements mid) (state new)) → OnOk r (IsCommitted (IsMadeBy state statements old) (state new))
+reads_then_kept state statements old mid new (Ok x) reads same kept = record { is_open = kept.is_open; sees = made_before state statements old mid reads same (state new).now.trees kept.sees; leaves = kept.leaves }
+reads_then_kept state statements old mid new (Err e) reads same kept = tt
 
-pub reads_then_made : {S : Type 0} (g : Ghosts S) (statements : List Statement) (old mid new : Held S) → OnlyReads (state g old) (state g mid) → (IsTrue (state g mid).is_open → (state g mid).now ≡ (state g old).now) → IsOneStep (state g mid) (state g new)
-    → (HasCleanDisk (state g new) → Survives (state g mid) (state g new) (IsMadeBy g statements mid)) → Survives (state g old) (state g new) (IsMadeBy g statements old)
-reads_then_made g statements old mid new reads same once made =
-    let whole = (reads_then_once (state g old) (state g mid) (state g new) reads once).survives in
+pub reads_then_made : {S : Type 0} (state : S → State) (statements : List Statement) (old mid new : S) → OnlyReads (state old) (state mid) → (IsTrue (state mid).is_open → (state mid).now ≡ (state old).now) → IsOneStep (state mid) (state new)
+    → (HasCleanDisk (state new) → Survives (state mid) (state new) (IsMadeBy state statements mid)) → Survives (state old) (state new) (IsMadeBy state statements old)
+reads_then_made state statements old mid new reads same once made =
+    let whole = (reads_then_once (state old) (state mid) (state new) reads once).survives in
     record {
       clean = whole.clean;
       shield = whole.shield;
@@ -102,8 +100,8 @@ reads_then_made g statements old mid new reads same once made =
       limit = whole.limit;
       closes = whole.closes;
       crash = λ clean db may. elim ((made clean).crash clean db may) [
-        | inl before ↦ elim (reads.survives.crash (earlier (state g mid) (state g new) once.survives clean) db before) [ inl first ↦ inl first | inr none ↦ absurd none ]
-        | inr is ↦ inr (made_before g statements old mid reads same db is)
+        | inl before ↦ elim (reads.survives.crash (earlier (state mid) (state new) once.survives clean) db before) [ inl first ↦ inl first | inr none ↦ absurd none ]
+        | inr is ↦ inr (made_before state statements old mid reads same db is)
       ];
     }
 
@@ -127,10 +125,10 @@ left_two None is = absurd (let made : Created ≡ Already = is in let no : ⊥ =
 left_two (Some One) is = absurd (let moved : Moved ≡ Already = is in let no : ⊥ = cc in no)
 left_two (Some Two) is = refl
 
-pub left_alone : {S : Type 0} (g : Ghosts S) (old : State) (mid end : Held S) (found : Option Version) (r : Result Step TableFault) → OnlyReads old (state g mid) → found ≡ Some Two → IfOk r (λ step. step ≡ step_for found)
-    → MatchResult r (λ _. end ≡ mid) (λ _. ⊥) → MatchResult r (λ step. (step ≡ Already) × OnlyReads old (state g end)) (λ _. ⊥)
-left_alone g old mid end found (Ok x) reads two step h = (step ∙ ap step_for two, subst (λ c. OnlyReads old (state g c)) (sym h) reads)
-left_alone g old mid end found (Err e) reads two step h = h
+pub left_alone : {S : Type 0} (state : S → State) (old : State) (mid end : S) (found : Option Version) (r : Result Step TableFault) → OnlyReads old (state mid) → found ≡ Some Two → IfOk r (λ step. step ≡ step_for found)
+    → MatchResult r (λ _. end ≡ mid) (λ _. ⊥) → MatchResult r (λ step. (step ≡ Already) × OnlyReads old (state end)) (λ _. ⊥)
+left_alone state old mid end found (Ok x) reads two step h = (step ∙ ap step_for two, subst (λ c. OnlyReads old (state c)) (sym h) reads)
+left_alone state old mid end found (Err e) reads two step h = h
 
 pub or_only_store : (P : Step → Type 0) (Q : TableFault → Type 0) (r : Result Step TableFault) → MatchResult r P (λ _. ⊥) → MatchResult r P Q
 or_only_store P Q (Ok x) h = h
@@ -149,15 +147,15 @@ moved_brought P found (Ok x) step moved = λ is. moved (moved_one found (sym ste
 moved_brought P found (Err e) step moved = tt
 
 -- where some table stands, it is left alone or moved
-pub some_moved : {S : Type 0} (g : Ghosts S) (IsMoved : Trees → Type 0) (db : Database) (mid end : Held S) (found : Option Version) (r : Result Step TableFault) → IsStanding db found → HasSomeTable db.schema → (state g mid).in_transaction ≡ false
-    → (found ≡ Some One → Survives (state g mid) (state g end) IsMoved) → (found ≡ Some Two → MatchResult r (λ _. end ≡ mid) (λ _. ⊥)) → Survives (state g mid) (state g end) IsMoved
-some_moved g IsMoved db mid end None r (Named is names) some off moved already = absurd (let no : ⊥ = cc in no)
-some_moved g IsMoved db mid end None r (Found none) some off moved already = absurd (none some)
-some_moved g IsMoved db mid end (Some One) r stands some off moved already = moved refl
-some_moved g IsMoved db mid end (Some Two) (Ok x) stands some off moved already =
-    let here = state g mid in
-    subst (λ c. Survives here (state g c) IsMoved) (sym (already refl)) (reads_never IsMoved here here (nothing_read here off))
-some_moved g IsMoved db mid end (Some Two) (Err e) stands some off moved already = absurd (already refl)
+pub some_moved : {S : Type 0} (state : S → State) (IsMoved : Trees → Type 0) (db : Database) (mid end : S) (found : Option Version) (r : Result Step TableFault) → IsStanding db found → HasSomeTable db.schema → (state mid).in_transaction ≡ false
+    → (found ≡ Some One → Survives (state mid) (state end) IsMoved) → (found ≡ Some Two → MatchResult r (λ _. end ≡ mid) (λ _. ⊥)) → Survives (state mid) (state end) IsMoved
+some_moved state IsMoved db mid end None r (Named is names) some off moved already = absurd (let no : ⊥ = cc in no)
+some_moved state IsMoved db mid end None r (Found none) some off moved already = absurd (none some)
+some_moved state IsMoved db mid end (Some One) r stands some off moved already = moved refl
+some_moved state IsMoved db mid end (Some Two) (Ok x) stands some off moved already =
+    let here = state mid in
+    subst (λ c. Survives here (state c) IsMoved) (sym (already refl)) (reads_never IsMoved here here (nothing_read here off))
+some_moved state IsMoved db mid end (Some Two) (Err e) stands some off moved already = absurd (already refl)
 
 -- ---- any tables
 
@@ -177,10 +175,10 @@ named_brought found (Err e) step named = tt
 
 -- ---- what stays
 
-pub read_alone : {S : Type 0} (g : Ghosts S) (old : State) (mid end : Held S) (found : Option Version) (r : Result Step TableFault) → OnlyReads old (state g mid) → IfOk r (λ step. step ≡ step_for found)
-    → (found ≡ Some Two → MatchResult r (λ _. end ≡ mid) (λ _. ⊥)) → IfOk r (λ step. step ≡ Already → OnlyReads old (state g end))
-read_alone g old mid end found (Ok x) reads step already = λ is. subst (λ c. OnlyReads old (state g c)) (sym (already (left_two found (sym step ∙ is)))) reads
-read_alone g old mid end found (Err e) reads step already = tt
+pub read_alone : {S : Type 0} (state : S → State) (old : State) (mid end : S) (found : Option Version) (r : Result Step TableFault) → OnlyReads old (state mid) → IfOk r (λ step. step ≡ step_for found)
+    → (found ≡ Some Two → MatchResult r (λ _. end ≡ mid) (λ _. ⊥)) → IfOk r (λ step. step ≡ Already → OnlyReads old (state end))
+read_alone state old mid end found (Ok x) reads step already = λ is. subst (λ c. OnlyReads old (state c)) (sym (already (left_two found (sym step ∙ is)))) reads
+read_alone state old mid end found (Err e) reads step already = tt
 
 -- tables that show views in schema 1 are found as such
 one_shown : (db : Database) (found : Option Version) (v : Views) → HasSomeTable (schema_of One) → ShowsIn One db v → IsStanding db found → found ≡ Some One
@@ -217,13 +215,13 @@ kept_rests old new r moved left Two v rest = left v rest
 latest_there : (db : Database) (v : Views) → ShowsIn Two db v → HasLabel db.trees (codes "schema") 2
 latest_there db v shows = let row = shows.meta.complete (codes "schema") 2 refl in (meta_row row.0 (codes "schema") 2, row.1, refl, refl)
 
-pub hands_latest : {S : Type 0} (g : Ghosts S) (old : State) (mid end : Held S) (found : Option Version) (r : Result Step TableFault) → (IsTrue (state g mid).is_open → (state g mid).now ≡ old.now)
+pub hands_latest : {S : Type 0} (state : S → State) (old : State) (mid end : S) (found : Option Version) (r : Result Step TableFault) → (IsTrue (state mid).is_open → (state mid).now ≡ old.now)
     → (found ≡ Some Two → NamesLatest old.now) → IfOk r (λ step. step ≡ step_for found) → (found ≡ Some Two → MatchResult r (λ _. end ≡ mid) (λ _. ⊥))
-    → ((v : Views) → RestsIn One old v → OnOk r (AtRest (state g end) v)) → (RestsBare old → OnOk r (AtRest (state g end) (views_of new_history)))
-    → IfOk r (λ step. IsTrue (state g end).is_open → HandsLatest old step (state g end))
-hands_latest g old mid end found (Ok Created) same latest step already moved made = λ opened bare. latest_there (state g end).now (views_of new_history) ((made bare).shows opened)
-hands_latest g old mid end found (Ok Moved) same latest step already moved made = λ opened v rest. latest_there (state g end).now v ((moved v rest).shows opened)
-hands_latest g old mid end found (Ok Already) same latest step already moved made =
+    → ((v : Views) → RestsIn One old v → OnOk r (AtRest (state end) v)) → (RestsBare old → OnOk r (AtRest (state end) (views_of new_history)))
+    → IfOk r (λ step. IsTrue (state end).is_open → HandsLatest old step (state end))
+hands_latest state old mid end found (Ok Created) same latest step already moved made = λ opened bare. latest_there (state end).now (views_of new_history) ((made bare).shows opened)
+hands_latest state old mid end found (Ok Moved) same latest step already moved made = λ opened v rest. latest_there (state end).now v ((moved v rest).shows opened)
+hands_latest state old mid end found (Ok Already) same latest step already moved made =
     let two = left_two found (sym step) in
-    subst (λ c. IsTrue (state g c).is_open → NamesLatest (state g c).now) (sym (already two)) (λ opened. subst NamesLatest (sym (same opened)) (latest two))
-hands_latest g old mid end found (Err e) same latest step already moved made = tt
+    subst (λ c. IsTrue (state c).is_open → NamesLatest (state c).now) (sym (already two)) (λ opened. subst NamesLatest (sym (same opened)) (latest two))
+hands_latest state old mid end found (Err e) same latest step already moved made = tt

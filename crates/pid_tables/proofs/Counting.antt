@@ -11,7 +11,7 @@ use Rattle.pid_moderation.specs.Items.{Items, name_at, imported, has_name, count
 use Rattle.pid_moderation.specs.WellMade.{AreApart}
 use Rattle.pid_tables.specs.declared.putting.Put.{Put}
 use Rattle.pid_tables.specs.declared.putting.Put.TheVariants.{Renamed, Same}
-use Rattle.pid_tables.specs.Puts.{put_over}
+use Rattle.pid_tables.specs.Steps.Puts.{put_over}
 use Rattle.pid_tables.specs.declared.tally.Tally.{Tally}
 use Rattle.pid_tables.specs.Steps.Tallies.{tallied}
 use Rattle.pid_tables.specs.Steps.Tallies.{tally_of}

@@ -23,7 +23,8 @@ use Rattle.pid_tables.specs.declared.rows.schema_version.Version.TheVariants.{Tw
 use Rattle.pid_tables.specs.Rows.PairRows.{Map, RowsAre}
 use Rattle.pid_tables.specs.Rows.TableRows.{number, meta_row}
 use Rattle.sqlite.specs.Order.{Row}
-use Rattle.pid_tables.specs.Rows.Shows.{ShowsCounting, remark_in, counted_from_one}
+use Rattle.pid_tables.specs.Rows.Steps.Shows.{ShowsCounting}
+use Rattle.pid_tables.specs.Rows.Shows.{remark_in, counted_from_one}
 use Rattle.pid_tables.specs.Rows.Steps.Shows.{meta_of}
 use Rattle.pid_moderation.specs.Submissions.{standing_in}
 use Rattle.pid_tables.proofs.OfRows.MapLemmas.{map_added}

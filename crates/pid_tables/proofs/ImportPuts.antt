@@ -4,13 +4,13 @@ use Rattle.sqlite.specs.State.{State, HasCleanDisk, Survives}
 use Rattle.pid_reader.specs.LookingBack.{Item}
 use Rattle.pid_moderation.specs.Items.{Items, name_at, imported}
 use Rattle.pid_moderation.specs.Views.{Views}
-use Rattle.pid_tables.specs.Rows.Leaves.{KeepsCommitted, Within, Written}
+use Rattle.pid_tables.specs.Rows.Steps.Within.{KeepsCommitted, Within, Written}
 use Rattle.pid_tables.specs.Rows.Shows.{Counts}
-use Rattle.pid_tables.specs.Rows.Writes.{with_name}
+use Rattle.pid_tables.specs.Rows.Steps.Writes.{with_name}
 use Rattle.pid_tables.specs.declared.rows.fault.TableFault.{TableFault}
 use Rattle.pid_tables.proofs.OfRows.GoingLemmas.{earlier}
 use Rattle.pid_tables.specs.declared.putting.Put.{Put}
-use Rattle.pid_tables.specs.Puts.{put_over}
+use Rattle.pid_tables.specs.Steps.Puts.{put_over}
 use Rattle.pid_tables.specs.declared.tally.Tally.{Tally}
 use Rattle.pid_tables.specs.Steps.PutFiles.{PutAll, PutSome}
 use Rattle.pid_tables.specs.Steps.Putting.{Puts, GivesUp}

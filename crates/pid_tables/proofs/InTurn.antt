@@ -9,7 +9,7 @@ use Rattle.pid_moderation.specs.Changes.{with_items, renumbered}
 use Rattle.pid_moderation.specs.Items.{Items, name_at, imported}
 use Rattle.pid_moderation.specs.Views.{Views, is_named_anew}
 use Rattle.pid_moderation.specs.WellMade.{AreApart}
-use Rattle.pid_tables.specs.Rows.Writes.{with_name}
+use Rattle.pid_tables.specs.Rows.Steps.Writes.{with_name}
 use Rattle.pid_tables.specs.Steps.Putting.{put_in_turn}
 use Rattle.pid_tables.proofs.Counting.{name_kept}
 use Rattle.pid_tables.proofs.FileEntries.{tied}

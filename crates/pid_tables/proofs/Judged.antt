@@ -30,7 +30,7 @@ use Rattle.pid_moderation.specs.Ranks.{has_rank}
 use Rattle.pid_moderation.specs.Views.{Views, views_of, items_of}
 use Rattle.pid_moderation.specs.WellMade.{AreApart}
 use Rattle.pid_tables.specs.Rows.Shows.{counts_of}
-use Rattle.pid_tables.specs.Applies.{CountsFit}
+use Rattle.pid_tables.specs.Steps.Fits.{CountsFit}
 use Rattle.pid_tables.specs.declared.tally.Tally.{Tally}
 use Rattle.pid_moderation.specs.Files.{file_reading}
 use Rattle.pid_tables.specs.Importing.{RefusesImport}

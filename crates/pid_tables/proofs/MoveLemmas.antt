@@ -21,7 +21,7 @@ use Rattle.pid_tables.specs.Rows.Shows.{Shows, ShowsIn}
 use Rattle.pid_tables.proofs.OfRows.GoingLemmas.{earlier, goes_then}
 use Rattle.pid_tables.proofs.OfRows.LeaveLemmas.{shows_found}
 use Rattle.pid_tables.proofs.OfCheck.Later.{only_store_never}
-use Rattle.pid_tables.specs.Creation.{IsUndone}
+use Rattle.pid_tables.specs.Steps.Commits.{IsUndone}
 
 -- a commit that failed gives back what was committed
 pub undone : (old new : State) (e : Error) → IsTrue old.in_transaction → FailsToCommit old new e → IsUndone old new

@@ -15,9 +15,10 @@ use Rattle.pid_moderation.specs.Items.{Items, name_at, has_name}
 use Rattle.pid_moderation.specs.Views.{Views}
 use Rattle.pid_tables.specs.declared.putting.Put.TheVariants.{Added, Renamed, Same}
 use Rattle.pid_tables.specs.Rows.Steps.Answers.{name_row}
-use Rattle.pid_tables.specs.Puts.{put_over}
-use Rattle.pid_tables.specs.Rows.Shows.{Counts, ShowsCounting}
-use Rattle.pid_tables.specs.Rows.Writes.{with_name}
+use Rattle.pid_tables.specs.Steps.Puts.{put_over}
+use Rattle.pid_tables.specs.Rows.Shows.{Counts}
+use Rattle.pid_tables.specs.Rows.Steps.Shows.{ShowsCounting}
+use Rattle.pid_tables.specs.Rows.Steps.Writes.{with_name}
 use Rattle.std.proofs.lemmas.Bool.{cases_Bool}
 use Rattle.pid_tables.proofs.OfRows.SetLemmas.{tied}
 use Rattle.pid_tables.proofs.ChangeLemmas.{same_items}

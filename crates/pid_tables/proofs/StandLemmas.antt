@@ -1,5 +1,5 @@
 -- What stands in a database, as reads tell it.
-use Rattle.std.proofs.Common.{◌≡◌, ◌↔◌, ◌≤◌, ℕ, arith, inl, inr, false, [], ◌∷◌, ◌++◌, None, Some, Option, Ok, Err, Result, IfErr, MatchResult, IsTrue, codes, refl, sym, ap, subst}
+use Rattle.std.proofs.Common.{◌≡◌, ◌↔◌, ◌≤◌, ℕ, arith, inl, inr, false, [], ◌∷◌, ◌++◌, None, Some, Option, Ok, Err, Result, IfErr, MatchResult, IsTrue, codes, refl, sym, ap, subst, ◌∙◌, not, Bool}
 use Rattle.std.proofs.lemmas.Bool.{cases_Bool}
 use Rattle.std.proofs.lemmas.List.Sorted.{IsPermutation-sym}
 use Rattle.sqlite.specs.Effect.{Database}
@@ -30,6 +30,10 @@ use Rattle.pid_tables.proofs.OfCheck.Stored.{stored}
 use Rattle.pid_tables.proofs.OfCheck.WholeTexts.{meta_is}
 use Rattle.pid_tables.specs.Bringing.{NamesLatest, ShowsLatest}
 use Rattle.pid_tables.specs.Steps.Bringing.{IsStanding, Named, Found}
+
+-- a connection says that it is outside a transaction
+pub outside : (inside answer : Bool) → inside ≡ false → answer ≡ not inside → IsTrue answer
+outside inside answer is value = value ∙ ap not is
 
 -- where nothing was uncommitted, reads see the same
 pub seen_still : (old new : State) → (IsTrue old.is_open → old.now ≡ old.committed) → OnlyReads old new → IsTrue new.is_open → new.now ≡ old.now

@@ -10,14 +10,12 @@ use Rattle.sqlite.specs.Table.{Table}
 use Rattle.sqlite.specs.Tree.{Trees}
 use Rattle.sqlite_rules.specs.Lists.{Has}
 use Rattle.pid_moderation.specs.History.{new_history}
-use Rattle.pid_moderation.specs.Views.{Views, views_of}
+use Rattle.pid_moderation.specs.Views.{views_of}
 use Rattle.pid_tables.specs.declared.rows.fault.TableFault.{TableFault}
-use Rattle.pid_tables.specs.Rows.Causes.{IsCaused}
 use Rattle.pid_tables.specs.Rows.Faults.{IsMemoryOrStore, IsNotNewerSchema}
 use Rattle.pid_tables.specs.Rows.Schema.{no_schema}
-use Rattle.pid_tables.specs.Rows.Shows.{Shows, counts_of}
-use Rattle.pid_tables.specs.Rows.Leaves.{AtRest, OnlyReads, Written, as_found}
-use Rattle.pid_tables.specs.AtOnce.{IsCommitted}
+use Rattle.pid_tables.specs.Rows.Shows.{Shows}
+use Rattle.pid_tables.specs.Rows.Leaves.{AtRest, OnlyReads, as_found}
 
 -- the schema that the tables make, in this order
 abbrev pub making : List Table → Schema
@@ -31,23 +29,6 @@ pub record AreMade (tables : List Table) (db : Database) : Type 0 where
 -- trees that list no table
 abbrev pub ListsNoTable : Trees → Type 0
 ListsNoTable db = IsDatabase (record { schema = no_schema; trees = db })
-
--- a transaction failed to commit: what was committed before is seen again
-pub record IsUndone (old new : State) : Type 0 where
-  pub was_open : IsTrue new.is_open → IsTrue old.is_open
-  pub sees : IsTrue new.is_open → new.now ≡ old.committed
-  pub committed : IsTrue new.is_open → new.committed ≡ old.committed
-
--- What a commit leaves.
-pub record EndsCommit {X : Type 0} (old new : State) (result : Result X TableFault)
-    : Type 0 where
-  -- if it answers a value, what the transaction saw; else a fault has its cause,
-  pub done : HasCleanDisk new → OnOk result (IsCommitted (λ db. db ≡ old.now.trees) new)
-  pub caused : HasCleanDisk new → IsTrue old.in_transaction → IfErr result (IsCaused old new)
-  -- and while it is open, the connection shows the views that were held
-  pub given_back : (v w : Views) → Written (counts_of w) old v w
-      → OnErr result (IsTrue new.is_open → Shows new.now v)
-  pub undone : HasCleanDisk new → IsTrue old.in_transaction → OnErr result (IsUndone old new)
 
 -- everything that a crash may leave has no table, or shows the history of a new registry
 pub record LeavesBareOrNew (s : State) : Type 0 where

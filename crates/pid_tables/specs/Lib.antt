@@ -7,13 +7,10 @@ pub mod AtOnce
 pub mod Statements
 pub mod Bringing
 pub mod SchemaNumbers
-pub mod Puts
-pub mod Applies
 pub mod ShowsOrBlank
 pub mod Steps
 pub mod Clauses
 pub mod Faults
-pub mod Putting
 pub mod Judging
 pub mod Importing
 pub mod ImportClauses

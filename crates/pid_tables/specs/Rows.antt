@@ -8,6 +8,5 @@ pub mod Shows
 pub mod Causes
 pub mod Leaves
 pub mod Clauses
-pub mod Writes
 pub mod LabelRows
 pub mod Steps

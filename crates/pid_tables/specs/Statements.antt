@@ -2,11 +2,10 @@
 -- those that move one of schema 1.
 -- A text means what SQLite takes it for there, by the names that the database has.
 use Rattle.std.specs.Prelude.{◌≡◌, ◌++◌, ℕ, List, [], ◌∷◌, Result, Ok, OnOk, IsTrue, codes}
-use Rattle.sqlite.specs.Held.{Held, state}
+use Rattle.sqlite.specs.State.{State}
 use Rattle.sqlite.specs.Order.{Row}
 use Rattle.sqlite.specs.Tree.{Trees}
 use Rattle.sqlite.specs.declared.types.Value.TheVariants.{Text}
-use Rattle.sqlite_trees.specs.declared.store.Store.{Ghosts}
 use Rattle.pid_tables.specs.Rows.Clauses.{Executes, HasCleanDisk, Survives, is_open, seen}
 use Rattle.pid_tables.specs.Rows.Schema.{latest}
 use Rattle.pid_tables.specs.Rows.TableRows.{number}
@@ -81,27 +80,27 @@ move_statements = (item_since_text, []) ∷ (item_since_rows_text, [])
     ∷ (new_label_text, Text (codes "revision") ∷ number 0 ∷ [])
     ∷ (label_text, Text (codes "schema") ∷ number (latest) ∷ []) ∷ []
 
-module _ {S : Type 0} (store : Ghosts S) where
+module _ {S : Type 0} (state : S → State) where
   -- from the first connection to the second these were carried out in turn, and nothing else
-  abbrev pub CarriedOut : List Statement → Held S → Held S → Type 0
+  abbrev pub CarriedOut : List Statement → S → S → Type 0
   CarriedOut [] old new = new ≡ old
-  CarriedOut (s ∷ rest) old new = (mid : Held S) × (count : ℕ)
-      × Executes store s.0 s.1 old mid (Ok count) × CarriedOut rest mid new
+  CarriedOut (s ∷ rest) old new = (mid : S) × (count : ℕ)
+      × Executes state s.0 s.1 old mid (Ok count) × CarriedOut rest mid new
 
   -- the trees that the statements make of the database that an open connection sees
-  pub record IsMadeBy (statements : List Statement) (conn : Held S) (db : Trees) : Type 0 where
-    pub was_open : IsTrue (is_open store conn)
-    pub first : Held S
-    pub same : seen store first ≡ seen store conn
-    pub last : Held S
+  pub record IsMadeBy (statements : List Statement) (conn : S) (db : Trees) : Type 0 where
+    pub was_open : IsTrue (is_open state conn)
+    pub first : S
+    pub same : seen state first ≡ seen state conn
+    pub last : S
     pub carried : CarriedOut statements first last
-    pub made : db ≡ (seen store last).trees
+    pub made : db ≡ (seen state last).trees
 
   -- Nothing but the statements is written, all of them or none.
-  pub record Carries {X : Type 0} (statements : List Statement) (old new : Held S)
+  pub record Carries {X : Type 0} (statements : List Statement) (old new : S)
       (result : Result X TableFault) : Type 0 where
     -- a crash leaves what it left before, or what they make of the database
-    pub survives : Survives store old new (IsMadeBy statements old)
+    pub survives : Survives state old new (IsMadeBy statements old)
     -- if a value is answered, the connection sees what they make, and a crash leaves it
-    pub done : HasCleanDisk store new
-        → OnOk result (IsCommitted (IsMadeBy statements old) (state store new))
+    pub done : HasCleanDisk state new
+        → OnOk result (IsCommitted (IsMadeBy statements old) (state new))

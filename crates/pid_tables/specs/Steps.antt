@@ -13,3 +13,7 @@ pub mod ImportParts
 pub mod MakingTables
 pub mod Tallies
 pub mod PutSinks
+pub mod Fits
+pub mod Puts
+pub mod PutNames
+pub mod Commits

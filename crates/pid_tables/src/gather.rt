@@ -15,6 +15,7 @@ ghost use Rattle.pid_moderation.specs.WellMade.{AllItems, HoldsParents};
 ghost use Rattle.pid_tables.specs.Rows.Clauses.{Reads};
 ghost use Rattle.pid_tables.specs.Steps.Gathering.{bare};
 
+use crate::database::Database;
 use crate::rows::TableFault;
 use crate::rows::item::has_children;
 use crate::rows::receipt::kept_reply;
@@ -23,7 +24,6 @@ use crate::rows::submission::standing;
 use crate::tables::Tables;
 use pid_ident::{Account, Key, Name, Path};
 use pid_moderation::{Facts, NamedSubmission, Rank, Reply, Rows};
-use sqlite::Alter;
 use std::alloc::Global;
 
 // What is known of every command.
@@ -68,13 +68,13 @@ struct ItemPlace {
     has_children: bool,
 }
 
-impl<S: Alter + Drop> Tables<S> {
+impl<C: Database + Drop> Tables<C> {
     fn submission_facts(
         &mut self,
         alloc: Global,
         number: u32,
     ) -> Result<Option<NamedSubmission>, TableFault>
-        ensures { Reads S.Store self.old.conn self.new.conn result (λ v named. named ≡ named_in v number) }
+        ensures { Reads C.state self.old.conn self.new.conn result (λ v named. named ≡ named_in v number) }
     {
         match standing(self, alloc, number) {
             Ok(None) => Ok(None),
@@ -89,7 +89,7 @@ impl<S: Alter + Drop> Tables<S> {
     }
 
     fn has_parent(&mut self, alloc: Global, path: Path) -> Result<bool, TableFault>
-        ensures { Reads S.Store self.old.conn self.new.conn result
+        ensures { Reads C.state self.old.conn self.new.conn result
             (λ v there. there ≡ holds_parent (parent_text (path_text path)) v.items) }
     {
         match path.parent() {
@@ -102,7 +102,7 @@ impl<S: Alter + Drop> Tables<S> {
     }
 
     fn place_at(&mut self, alloc: Global, path: Path) -> Result<ItemPlace, TableFault>
-        ensures { Reads S.Store self.old.conn self.new.conn result
+        ensures { Reads C.state self.old.conn self.new.conn result
             (λ v place. AllItems v.items → HoldsParents v.items
             → place ≡ record {
               items = length v.items;
@@ -132,7 +132,7 @@ impl<S: Alter + Drop> Tables<S> {
         number: u32,
         known: KnownFacts,
     ) -> Result<Facts, TableFault>
-        ensures { Reads S.Store self.old.conn self.new.conn result
+        ensures { Reads C.state self.old.conn self.new.conn result
             (λ v facts. facts ≡ looked_at v (RemarksOf number) (bare known)) }
     {
         let remarks = remark_count(self, number)?;
@@ -153,7 +153,7 @@ impl<S: Alter + Drop> Tables<S> {
         number: u32,
         known: KnownFacts,
     ) -> Result<Facts, TableFault>
-        ensures { Reads S.Store self.old.conn self.new.conn result
+        ensures { Reads C.state self.old.conn self.new.conn result
             (λ v facts. AllItems v.items → HoldsParents v.items
             → facts ≡ with_item_facts v (named_in v number) (bare known)) }
     {
@@ -189,7 +189,7 @@ impl<S: Alter + Drop> Tables<S> {
         rows: Rows<'_>,
         known: KnownFacts,
     ) -> Result<Facts, TableFault>
-        ensures { Reads S.Store self.old.conn self.new.conn result
+        ensures { Reads C.state self.old.conn self.new.conn result
             (λ v facts. AllItems v.items → HoldsParents v.items
             → facts ≡ looked_at v (wanted_by rows.entry) (bare known)) }
     {
@@ -223,7 +223,7 @@ impl<S: Alter + Drop> Tables<S> {
         key: &Option<Key>,
         rows: Rows<'_>,
     ) -> Result<Facts, TableFault>
-        ensures { Reads S.Store self.old.conn self.new.conn result
+        ensures { Reads C.state self.old.conn self.new.conn result
             (λ v facts. AllItems v.items → HoldsParents v.items
             → facts ≡ facts_at v account.now key.now (wanted_by rows.entry)) }
     {

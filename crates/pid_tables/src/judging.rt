@@ -6,11 +6,11 @@ ghost use Rattle.pid_tables.specs.Rows.Clauses.{AtRest, HasCleanDisk, OnlyReads}
 ghost use Rattle.pid_tables.specs.Clauses.{EarlyIsCaused};
 ghost use Rattle.pid_tables.specs.Judging.{EarlyIsNotFailed, IsJudgedEarly};
 
+use crate::database::Database;
 use crate::faults::refusal_of;
 use crate::laws;
 use crate::tables::Tables;
 use pid_moderation::{Command, Facts, Refusal, Reply, Rows, before_file};
-use sqlite::Alter;
 use std::alloc::Global;
 
 /// What is known of an import before its file is read.
@@ -27,17 +27,17 @@ pub enum Early {
 ///
 /// It holds of tables that show a sound history. If there is no memory or the store fails, that
 /// is the answer; the store fails only for a cause.
-pub fn judge_import<S: Alter + Drop>(
-    tables: &mut Tables<S>,
+pub fn judge_import<C: Database + Drop>(
+    tables: &mut Tables<C>,
     alloc: Global,
     command: &Command,
 ) -> Early
-    ensures rests { OnlyReads S.Store tables.old.conn tables.new.conn }
-    ensures judged { HasCleanDisk S.Store tables.new.conn → (h : History) → IsSound h
-        → AtRest S.Store tables.old.conn (views_of h) → IsJudgedEarly h command.now result }
-    ensures caused { HasCleanDisk S.Store tables.new.conn → (h : History) → IsSound h
-        → AtRest S.Store tables.old.conn (views_of h)
-        → EarlyIsCaused S.Store tables.old.conn tables.new.conn h command.now result }
+    ensures rests { OnlyReads C.state tables.old.conn tables.new.conn }
+    ensures judged { HasCleanDisk C.state tables.new.conn → (h : History) → IsSound h
+        → AtRest C.state tables.old.conn (views_of h) → IsJudgedEarly h command.now result }
+    ensures caused { HasCleanDisk C.state tables.new.conn → (h : History) → IsSound h
+        → AtRest C.state tables.old.conn (views_of h)
+        → EarlyIsCaused C.state tables.old.conn tables.new.conn h command.now result }
     ensures alive { EarlyIsNotFailed result }
 {
     laws::views_of_sound_histories(); // proof only

@@ -5,16 +5,12 @@ ghost use Rattle.pid_moderation.specs.Views.{views_of, items_of};
 ghost use Rattle.pid_moderation.specs.WellMade.{AllItems, HoldsParents, HasGoodFile, IsFile};
 ghost use Rattle.pid_tables.specs.Rows.Causes.{IsReadable};
 ghost use Rattle.pid_tables.specs.Rows.Shows.{AreViews};
-ghost use Rattle.sqlite.specs.Held.{state};
-ghost use Rattle.pid_tables.specs.Rows.Clauses.{is_open, seen};
 ghost use Rattle.std.specs.Prelude.{◌≡◌, ◌↔◌, ◌<◌, ℕ, List, length, true, false, IsTrue, None};
 ghost use Rattle.pid_moderation.specs.declared.command.Command.{Command};
 ghost use Rattle.pid_moderation.specs.CheckTables.{most_file_bytes};
 ghost use Rattle.pid_reader.specs.Lines.{lines_of};
 ghost use Rattle.pid_reader.specs.Reading.{entries_of, refused};
 ghost use Rattle.pid_moderation.specs.Files.{IsBroken, file_reading};
-
-use sqlite::{Alter, Connection};
 
 /// The views of every sound history, as that of each registry is, keep what tables ask of views,
 /// and their items are a tree, as `gather` asks.
@@ -26,14 +22,6 @@ pub fn views_of_sound_histories()
 {
     pid_moderation::laws::trees_are_files(); // proof only
     pid_moderation::laws::trees_are_last_writes(); // proof only
-}
-
-/// Outside a transaction a connection sees what is committed.
-pub fn all_is_committed_outside_transactions<S: Alter>(conn: &Connection<S>)
-    ensures { conn.now.in_transaction ≡ false → IsTrue (is_open S.Store conn.now)
-        → seen S.Store conn.now ≡ (state S.Store conn.now).committed }
-{
-    let _outside = conn.is_autocommit();
 }
 
 /// The entries of a text that is refused nowhere are a file: names at paths, with the parent of

@@ -3,7 +3,9 @@
 
 mod batch;
 pub mod check;
+mod connection;
 mod creation;
+mod database;
 mod faults;
 mod gather;
 mod judging;
@@ -19,13 +21,12 @@ pub mod searches;
 mod tables;
 mod tally;
 
-pub use batch::{Batch, apply, begin, commit, put, roll_back};
-pub use creation::create;
+pub use database::{Database, WritableDatabase};
 pub use faults::refusal_of;
 pub use judging::{Early, judge_import};
 pub use lists::EachEnd;
 pub use migration::Step;
-pub use put_file::{Stop, import_file};
+pub use put_file::Stop;
 pub use putting::Put;
 pub use rows::{TableFault, Version};
 pub use tables::Tables;

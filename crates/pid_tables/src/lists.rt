@@ -9,6 +9,6 @@ mod queue;
 mod remarks;
 mod submission;
 pub(crate) mod submissions;
-mod walk;
+pub(crate) mod walk;
 
 pub use walk::EachEnd;

@@ -32,14 +32,11 @@ ghost use Rattle.pid_tables.specs.Steps.Clauses.{FindsLatest, FindsShown};
 ghost use Rattle.pid_tables.specs.Steps.Bringing.{IsStanding, step_for};
 ghost use Rattle.pid_tables.specs.Steps.Found.{BringsFound};
 
-use crate::batch::commit;
 use crate::check::has_some_table;
-use crate::creation::create;
+use crate::database::{Database, WritableDatabase};
 use crate::rows::meta::schema_number;
 use crate::rows::{LATEST, TableFault, Version};
-use crate::schema_1_to_2::move_tables;
 use crate::tables::Tables;
-use sqlite::{Alter, Connection};
 use std::alloc::Global;
 
 /// What was in a database that was moved to schema 2.
@@ -54,8 +51,8 @@ pub enum Step {
 }
 
 // Whether there are tables, and their labels name schema 2. Labels that cannot be read name none.
-fn is_current<S: Alter + Drop>(tables: &mut Tables<S>) -> Result<bool, TableFault>
-    ensures { FindsLatest S.Store tables.old.conn tables.new.conn result }
+fn is_current<C: Database + Drop>(tables: &mut Tables<C>) -> Result<bool, TableFault>
+    ensures { FindsLatest C.state tables.old.conn tables.new.conn result }
 {
     crate::check::laws::schemas_have_tables(); // proof only
     if !has_some_table(tables)? {
@@ -68,38 +65,20 @@ fn is_current<S: Alter + Drop>(tables: &mut Tables<S>) -> Result<bool, TableFaul
     }
 }
 
-// Moves tables of schema 1 in one transaction.
-fn move_up<S: Alter>(conn: &mut Connection<S>) -> Result<(), TableFault>
-    requires { conn.old.in_transaction ≡ false }
-    ensures at_once { WritesAtOnce S.Store conn.old conn.new result }
-    ensures moved { (v : Views) → RestsIn S.Store One conn.old v
-        → OnOk result (AtRest S.Store conn.new v) }
-    ensures kept { (v : Views) → RestsIn S.Store One conn.old v
-        → OnErr result (RestsIn S.Store One conn.new v) }
-    ensures only_store { HasCleanDisk S.Store conn.new → (v : Views)
-        → RestsIn S.Store One conn.old v → IfErr result IsMemoryOrStore }
-    ensures never { HasCleanDisk S.Store conn.new → IfErr result IsNotNewerSchema }
-    ensures statements { Carries S.Store move_statements conn.old conn.new result }
-{
-    let mut batch = conn.transaction();
-    move_tables(&mut batch)?;
-    commit(batch)
-}
-
 // Moves what is there to schema 2.
-fn upgrade<S: Alter>(conn: &mut Connection<S>, found: Option<Version>) -> Result<Step, TableFault>
-    requires { conn.old.in_transaction ≡ false }
-    ensures at_once { WritesAtOnce S.Store conn.old conn.new result }
+fn upgrade<C: WritableDatabase>(conn: &mut C, found: Option<Version>) -> Result<Step, TableFault>
+    requires { (C.state conn.old).in_transaction ≡ false }
+    ensures at_once { WritesAtOnce C.state conn.old conn.new result }
     ensures step { IfOk result (λ step. step ≡ step_for found) }
-    ensures brings { BringsFound S.Store found conn.old conn.new result }
-    ensures never { HasCleanDisk S.Store conn.new → IfErr result IsNotNewerSchema }
+    ensures brings { BringsFound C.state found conn.old conn.new result }
+    ensures never { HasCleanDisk C.state conn.new → IfErr result IsNotNewerSchema }
 {
     match found {
-        None => match create(conn) {
+        None => match conn.create() {
             Ok(()) => Ok(Step::Created),
             Err(fault) => Err(fault),
         },
-        Some(Version::One) => match move_up(conn) {
+        Some(Version::One) => match conn.move_up() {
             Ok(()) => Ok(Step::Moved),
             Err(fault) => Err(fault),
         },
@@ -107,20 +86,20 @@ fn upgrade<S: Alter>(conn: &mut Connection<S>, found: Option<Version>) -> Result
     }
 }
 
-impl<S: Alter + Drop> Tables<S> {
+impl<C: WritableDatabase + Drop> Tables<C> {
     // The schema of the tables; none if there is no table. Those of schema 1 are judged, those of
     // schema 2 are not.
     fn schema_found(&mut self, alloc: Global) -> Result<Option<Version>, TableFault>
-        ensures rests { OnlyReads S.Store self.old.conn self.new.conn }
-        ensures same { IsTrue (is_open S.Store self.new.conn)
-            → (seen S.Store self.new.conn) ≡ (seen S.Store self.old.conn) }
-        ensures shown { FindsShown S.Store self.old.conn self.new.conn result }
-        ensures told { HasCleanDisk S.Store self.new.conn
-            → MatchResult result (IsStanding (seen S.Store self.old.conn))
-            (Explains (seen S.Store self.old.conn)) }
+        ensures rests { OnlyReads C.state self.old.conn self.new.conn }
+        ensures same { IsTrue (is_open C.state self.new.conn)
+            → (seen C.state self.new.conn) ≡ (seen C.state self.old.conn) }
+        ensures shown { FindsShown C.state self.old.conn self.new.conn result }
+        ensures told { HasCleanDisk C.state self.new.conn
+            → MatchResult result (IsStanding (seen C.state self.old.conn))
+            (Explains (seen C.state self.old.conn)) }
     {
         crate::check::laws::sound_histories_are_registries(); // proof only
-        crate::laws::all_is_committed_outside_transactions(&self.conn); // proof only
+        let _outside = self.conn.is_autocommit(); // proof only
         if is_current(self)? {
             return Ok(Some(Version::Two));
         }
@@ -139,10 +118,10 @@ impl<S: Alter + Drop> Tables<S> {
     /// showed, and the call may be made again.
     pub fn migrate(&mut self, alloc: Global) -> Result<Step, TableFault>
         // Whatever there is, it is one step.
-        ensures at_once { WritesAtOnce S.Store self.old.conn self.new.conn result }
-        ensures shown { MigratesShown S.Store self.old.conn self.new.conn result }
-        ensures judged { MigratesJudged S.Store self.old.conn self.new.conn result }
-        ensures none { MigratesNone S.Store self.old.conn self.new.conn result }
+        ensures at_once { WritesAtOnce C.state self.old.conn self.new.conn result }
+        ensures shown { MigratesShown C.state self.old.conn self.new.conn result }
+        ensures judged { MigratesJudged C.state self.old.conn self.new.conn result }
+        ensures none { MigratesNone C.state self.old.conn self.new.conn result }
     {
         crate::check::laws::schemas_have_tables(); // proof only
         let found = self.schema_found(alloc)?;

@@ -14,7 +14,8 @@ ghost use Rattle.pid_tables.specs.Steps.ImportParts.{IsPut, IsStopOf, JudgesFile
 ghost use Rattle.pid_tables.specs.Judging.{WhereOpen};
 ghost use Rattle.pid_tables.specs.Steps.PutFiles.{PutsFile};
 
-use crate::batch::{Batch, apply, begin, commit, roll_back};
+use crate::batch::apply;
+use crate::database::{Batch, Database};
 use crate::faults::refusal_of;
 use crate::laws;
 use crate::put_sink::{PutSink, Putter};
@@ -25,7 +26,6 @@ use pid_moderation::{
     Change, Command, FILE_BYTES, Facts, FileFault, Refusal, Reply, Verdict, decide,
 };
 use pid_reader::{CutEnd, InputEnd, ReadRefusal, cut_input};
-use sqlite::{Alter, Connection};
 use std::alloc::Global;
 
 /// Why a file was not imported.
@@ -64,7 +64,7 @@ pub(crate) fn put_file<K: Putter, I: Input>(
     }
 }
 
-fn stop_of(end: InputEnd<TableFault>) -> Stop
+pub(crate) fn stop_of(end: InputEnd<TableFault>) -> Stop
     ensures { IsStopOf end result }
 {
     match end {
@@ -111,15 +111,15 @@ fn judge_file(
 }
 
 // Applies the rest of an import whose file was put.
-fn apply_file<S: Alter>(
-    batch: &mut Batch<'_, S>,
+pub(crate) fn apply_file<B: Batch>(
+    batch: &mut B,
     alloc: Global,
     facts: &mut Facts,
     items: u32,
     tally: Tally,
     command: &Command,
 ) -> Result<Reply, Stop>
-    ensures { AppliesFile S.Store command.now facts.old items tally batch.old batch.new result }
+    ensures { AppliesFile B.batch command.now facts.old items tally batch.old batch.new result }
 {
     laws::texts_read_to_files(); // proof only
     match judge_file(facts, items, tally, command) {
@@ -132,53 +132,5 @@ fn apply_file<S: Alter>(
                 Err(fault) => Err(Stop::Failed(refusal_of(fault))),
             }
         }
-    }
-}
-
-/// Imports the file of an import, in one transaction with the rest of the import.
-///
-/// `facts` and `items` are those of `judge_import`, if the import depends on its file. The input is
-/// read to its end, or until its text is too long: then one byte more than a file may have was
-/// read. The file that the command has is not looked at.
-pub fn import_file<S: Alter, I: Input>(
-    conn: &mut Connection<S>,
-    alloc: Global,
-    facts: &mut Facts,
-    items: u32,
-    command: &Command,
-    input: &mut I,
-) -> Result<Reply, Stop>
-    requires { conn.old.in_transaction ≡ false }
-    ensures ends { EndsOutside S.Store conn.old conn.new }
-    // Some text was read; the import is answered, and the tables are left, as of a command with
-    // this file.
-    ensures stops { (text : List ℕ) × Consumes (I.to_come input.old) (I.to_come input.new) text
-        × ReadsFile result (I.to_come input.new) text
-        × (HasCleanDisk S.Store conn.new → (h : History) → AtRest S.Store conn.old (views_of h)
-        → WhereOpen h command.now facts.old items
-        (EndsImport S.Store conn.new result h (asked command.now (file_reading text)))) }
-    ensures read_fault { TellsReadFault result (I.read_fault input.new) }
-    ensures goes { I.goes input.old input.new }
-    // Only a registry that has failed is answered as such.
-    ensures alive { IfErr result StopIsNotFailed }
-{
-    // The number that the import has if it is accepted.
-    let revision = facts.revision.saturating_add(1);
-    let mut batch = begin(conn);
-    match put_file(&mut batch, alloc, revision, input) {
-        Err(end) => {
-            roll_back(batch);
-            Err(stop_of(end))
-        }
-        Ok(tally) => match apply_file(&mut batch, alloc, facts, items, tally, command) {
-            Err(stop) => {
-                roll_back(batch);
-                Err(stop)
-            }
-            Ok(reply) => match commit(batch) {
-                Ok(()) => Ok(reply),
-                Err(fault) => Err(Stop::Failed(refusal_of(fault))),
-            },
-        },
     }
 }

@@ -4,12 +4,12 @@ ghost use Rattle.pid_tables.specs.Steps.Tallies.{tallied};
 ghost use Rattle.pid_tables.specs.Steps.Tallies.{no_tally};
 
 use crate::batch::put;
+use crate::database::Batch;
 use crate::putting::Put;
 use crate::rows::TableFault;
 use crate::tally::Tally;
 use pid_ident::Path;
 use pid_reader::{Entry, Sink};
-use sqlite::{Alter, Transaction};
 use std::alloc::Global;
 
 /// What names are put into.
@@ -36,15 +36,14 @@ pub(crate) trait Putter {
         ensures fault { OnErr result (gives_up self.old self.new) };
 }
 
-impl<S: Alter> Putter for Transaction<'_, S> {
+impl<B: Batch> Putter for B {
     ghost use Rattle.std.specs.Prelude.{◌≡◌};
     ghost use Rattle.pid_tables.specs.Steps.ImportClauses.{Puts, GivesUp};
 
-    ghost puts = { λ n s item put t. (t.conn.ghost_name ≡ s.conn.ghost_name)
-        × Puts S.Store n s.conn.now t.conn.now item put };
+    ghost puts = { λ n s item put t. (B.batch.reference t ≡ B.batch.reference s)
+        × Puts B.batch.state n s t item put };
 
-    ghost gives_up = { λ s t. (t.conn.ghost_name ≡ s.conn.ghost_name)
-        × GivesUp S.Store s.conn.now t.conn.now };
+    ghost gives_up = { λ s t. (B.batch.reference t ≡ B.batch.reference s) × GivesUp B.batch.state s t };
 
     fn put_name(
         &mut self,

@@ -1,17 +1,17 @@
 //! Items of a file, put one by one within a transaction.
 ghost use Rattle.std.specs.Prelude.{◌≡◌, ℕ, List, Ok, Option, option_map, slice_get};
 ghost use Rattle.pid_moderation.specs.Items.{name_at};
-ghost use Rattle.pid_tables.specs.Puts.{put_over};
+ghost use Rattle.pid_tables.specs.Steps.Puts.{put_over};
 ghost use Rattle.pid_tables.specs.Steps.Clauses.{TellsWithin};
 ghost use Rattle.pid_tables.specs.Rows.Steps.Answers.{name_row};
-ghost use Rattle.pid_tables.specs.Rows.Writes.{with_name};
+ghost use Rattle.pid_tables.specs.Rows.Steps.Writes.{with_name};
 
+use crate::database::Batch;
 use crate::rows::TableFault;
 use crate::rows::item::{add_item, rename_item};
-use crate::rows::run::read_inside;
 use crate::rows::value::is_text_at;
+use sqlite::Row;
 use sqlite::types::ToSql;
-use sqlite::{Alter, Row, Transaction};
 
 /// What a name that was put at a path was to it.
 #[derive(Clone, Copy)]
@@ -39,26 +39,22 @@ fn put_by(rows: &[Row], name: &str) -> Result<Put, TableFault>
     }
 }
 
-fn compare<S: Alter>(
-    batch: &mut Transaction<'_, S>,
-    path: &str,
-    name: &str,
-) -> Result<Put, TableFault>
-    ensures { TellsWithin S.Store batch.old batch.new result (λ v. v)
+fn compare<B: Batch>(batch: &mut B, path: &str, name: &str) -> Result<Put, TableFault>
+    ensures { TellsWithin B.batch batch.old batch.new result (λ v. v)
         (λ v put. put ≡ put_over name.now (name_at path.now v.items)) }
 {
     let path = path.to_sql();
-    let rows = read_inside(batch, "SELECT name FROM item WHERE path = ?1", &[path])?;
+    let rows = batch.read_inside("SELECT name FROM item WHERE path = ?1", &[path])?;
     put_by(rows.as_slice(), name)
 }
 
-pub(crate) fn put_text<S: Alter>(
-    batch: &mut Transaction<'_, S>,
+pub(crate) fn put_text<B: Batch>(
+    batch: &mut B,
     path: &str,
     name: &str,
     revision: u64,
 ) -> Result<Put, TableFault>
-    ensures { TellsWithin S.Store batch.old batch.new result
+    ensures { TellsWithin B.batch batch.old batch.new result
         (with_name revision path.now name.now)
         (λ v put. put ≡ put_over name.now (name_at path.now v.items)) }
 {

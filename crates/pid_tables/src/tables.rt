@@ -4,32 +4,32 @@ ghost use Rattle.pid_tables.specs.Rows.Clauses.{OnlyReads, Tells};
 ghost use Rattle.pid_tables.specs.Clauses.{TellsSchema};
 
 use crate::check::has_some_table;
+use crate::database::Database;
 use crate::rows::TableFault;
 use crate::rows::meta::schema_number;
-use sqlite::{Alter, Connection};
 
 /// The tables of a registry, over a connection that is at rest between calls. A read leaves them as
 /// they are. The methods are where what they ask is: `gather`, `check`, `migration`, and the files
 /// of `lists` and `rows`.
 ///
-/// A transaction is begun on `conn`, by `begin`.
+/// What writes a whole change is a method of `conn`, in one transaction (`WritableDatabase`).
 #[derive(Drop)]
-pub struct Tables<S: Alter + Drop> {
-    pub conn: Connection<S>,
-    ghost settled: { conn.in_transaction ≡ false },
+pub struct Tables<C: Database + Drop> {
+    pub conn: C,
+    ghost settled: { (C.state conn).in_transaction ≡ false },
 }
 
-impl<S: Alter + Drop> Tables<S> {
+impl<C: Database + Drop> Tables<C> {
     /// The tables of an open connection, which is kept as it is: nothing is read, made or checked.
-    pub fn new(conn: Connection<S>) -> Tables<S>
-        requires { conn.in_transaction ≡ false }
+    pub fn new(conn: C) -> Tables<C>
+        requires { (C.state conn).in_transaction ≡ false }
         ensures { result.conn ≡ conn }
     {
         Tables { conn }
     }
 
     /// Hands the connection back as it is.
-    pub fn into_conn(self) -> Connection<S>
+    pub fn into_conn(self) -> C
         ensures { result ≡ self.conn }
     {
         let Tables { conn } = self;
@@ -42,9 +42,9 @@ impl<S: Alter + Drop> Tables<S> {
     /// What the labels have is what the query of the label answers first, whatever other tables
     /// there are; if that is no number of 32 bits, the tables are `Damaged`.
     pub fn version(&mut self) -> Result<u32, TableFault>
-        ensures rests { OnlyReads S.Store self.old.conn self.new.conn }
-        ensures told { Tells S.Store self.old.conn self.new.conn result (λ v n. n ≡ 2) }
-        ensures shown { TellsSchema S.Store self.old.conn self.new.conn result }
+        ensures rests { OnlyReads C.state self.old.conn self.new.conn }
+        ensures told { Tells C.state self.old.conn self.new.conn result (λ v n. n ≡ 2) }
+        ensures shown { TellsSchema C.state self.old.conn self.new.conn result }
     {
         if has_some_table(self)? {
             schema_number(self)

@@ -66,10 +66,9 @@ pub fn explain_looks(rt: &HostRuntime, path: &str) {
 
 /// Says whether a file is too large.
 pub fn explain_size(rt: &HostRuntime, path: &str) {
-    match look_at(rt, path) {
-        Ok(Found::File(length)) if length > LARGEST as u64 => {
-            say(rt, "", path, " ", "is larger than 4,194,304 bytes");
-        }
-        _ => {}
+    if let Ok(Found::File(length)) = look_at(rt, path)
+        && length > LARGEST as u64
+    {
+        say(rt, "", path, " ", "is larger than 4,194,304 bytes");
     }
 }

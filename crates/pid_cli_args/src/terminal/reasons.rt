@@ -18,7 +18,7 @@ const DATABASE: &[u8] = b"SQLite format 3\0";
 pub fn reason_of_store(rt: &HostRuntime, path: &str) -> &'static str {
     match look_at(rt, path) {
         Ok(Found::Folder) => reason_of(ErrorKind::IsADirectory),
-        _ => reason_of_file(rt, path),
+        Ok(Found::File(_) | Found::Other) | Err(_) => reason_of_file(rt, path),
     }
 }
 
@@ -51,7 +51,7 @@ fn reason_of_contents(rt: &HostRuntime, path: &str) -> &'static str {
 pub fn reason_of_folder(rt: &HostRuntime, path: &str) -> &'static str {
     match look_at(rt, path) {
         Ok(Found::Folder) => reason_within(rt, path),
-        Ok(_) => "it is no folder",
+        Ok(Found::File(_) | Found::Other) => "it is no folder",
         Err(ErrorKind::NotFound) => "there is no such folder",
         Err(fault) => reason_of(fault),
     }

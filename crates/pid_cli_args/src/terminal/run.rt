@@ -1,6 +1,9 @@
 //! A run of the program, with a person at the terminal.
 
-use crate::job::{ImportArgs, Job, LookupArgs, ServeArgs};
+use crate::fault_lines::{
+    JOURNAL_ANOTHER, JOURNAL_FAILED, JOURNAL_MISSING, OPEN_DAMAGED, OPEN_STORE, SOCKET_FAILED,
+};
+use crate::job::{ImportArgs, Job};
 use crate::terminal::files::{OPEN, explain_looks, explain_size, explain_unread, look_at};
 use crate::terminal::lines::{Lines, ScriptInput, script_input};
 use crate::terminal::prefix::Prefix;
@@ -71,7 +74,7 @@ impl<'r> Run<'r> {
     /// Explains the end of the run, by what standard input and standard output met.
     pub fn end(&self, status: u8, read: &Met, written: &Met) {
         let reported = self.reported.get();
-        let fault = reported.as_str().lines().next().unwrap_or("");
+        let fault = reported.as_str().split_inclusive('\n').next().unwrap_or("");
         if self.is_at_terminal {
             if matches!(self.job, Job::Tidy | Job::Check) {
                 explain_streams(self.rt, status, read, written);
@@ -103,11 +106,11 @@ impl<'r> Run<'r> {
         let (rt, registry) = (self.rt, self.files.registry);
         let journal = self.files.journal.unwrap_or("");
         match fault {
-            "open: Store" => say(rt, OPEN, registry, ": ", reason_of_store(rt, registry)),
-            "open: Damaged" => say(rt, "", registry, " ", DAMAGED),
-            "journal: Another" => say(rt, "", journal, " ", ANOTHER),
-            "journal: Missing" => say(rt, "", journal, " ", MISSING),
-            "journal: failed" => say(rt, OPEN, journal, ": ", reason_of_folder(rt, journal)),
+            OPEN_STORE => say(rt, OPEN, registry, ": ", reason_of_store(rt, registry)),
+            OPEN_DAMAGED => say(rt, "", registry, " ", DAMAGED),
+            JOURNAL_ANOTHER => say(rt, "", journal, " ", ANOTHER),
+            JOURNAL_MISSING => say(rt, "", journal, " ", MISSING),
+            JOURNAL_FAILED => say(rt, OPEN, journal, ": ", reason_of_folder(rt, journal)),
             _ => self.explain_stream(fault, read, written),
         }
     }
@@ -115,9 +118,9 @@ impl<'r> Run<'r> {
     fn explain_stream(&self, fault: &str, read: &Met, written: &Met) {
         let (rt, ids) = (self.rt, self.files.ids);
         match ids {
-            _ if fault == "socket: failed" => explain_port(rt, self.job),
+            _ if fault == SOCKET_FAILED => explain_port(rt, self.job),
             Some(ids) if fault.as_bytes().starts_with(b"line ") => explain_looks(rt, ids),
-            _ if fault != "file: failed" => {}
+            _ if fault != "file: failed\n" => {}
             Some(ids) if written.fault.is_none() => explain_unread(rt, ids),
             _ => explain_streams(rt, 3, read, written),
         }
@@ -132,7 +135,8 @@ impl<'r> Run<'r> {
             Job::Script { .. } => self.lines.report_refused(rt, refusal),
             Job::Lookup(words) if refusal == "3 BadText" => explain_lookup(rt, words),
             Job::Import(words) => explain_import(rt, words, refusal),
-            _ => {}
+            Job::Tidy | Job::Check | Job::Lookup(_) => {}
+            Job::Export { .. } | Job::Serve(_) | Job::Migrate { .. } => {}
         }
     }
 }
@@ -166,24 +170,17 @@ struct Files<'r> {
 }
 
 fn files_of<'r>(job: Job<'r>) -> Files<'r> {
-    let (registry, journal, ids) = match job {
-        Job::Tidy | Job::Check => ("", None, None),
-        Job::Lookup(LookupArgs { ids, .. }) => ("", None, Some(ids)),
-        Job::Script { db, journal } => (db.unwrap_or(""), journal, None),
-        Job::Import(
-            ImportArgs {
-                db,
-                journal,
-                ids,
-                ..
-            },
-        ) => (db, journal, Some(ids)),
-        Job::Serve(ServeArgs { db, journal, .. }) => (db, journal, None),
-        Job::Export { db } | Job::Migrate { db } => (db, None, None),
+    let (registry, ids) = match job {
+        Job::Tidy | Job::Check => ("", None),
+        Job::Lookup(words) => ("", Some(words.ids)),
+        Job::Script { db, .. } => (db.unwrap_or(""), None),
+        Job::Import(words) => (words.db, Some(words.ids)),
+        Job::Serve(words) => (words.db, None),
+        Job::Export { db } | Job::Migrate { db } => (db, None),
     };
     Files {
         registry,
-        journal,
+        journal: job.journal(),
         ids,
     }
 }
@@ -192,7 +189,8 @@ fn report_reading(rt: &HostRuntime, job: Job<'_>) {
     match job {
         Job::Tidy | Job::Check => report_input(rt, "a pci.ids file"),
         Job::Script { .. } => report_input(rt, "commands"),
-        _ => {}
+        Job::Lookup(_) | Job::Import(_) => {}
+        Job::Export { .. } | Job::Serve(_) | Job::Migrate { .. } => {}
     }
 }
 

@@ -1,7 +1,6 @@
 -- Steps of Exports.
 use Rattle.std.specs.Prelude.{◌≡◌, ℕ, List, ◌++◌, Option, Some, Result, Ok, Err, IfErr}
 use Rattle.std.specs.Io.KnownBytes.{Appends}
-use Rattle.sqlite_trees.specs.declared.store.Store.{Ghosts}
 use Rattle.pid_file.specs.declared.io.Output as outputs
 use Rattle.pid_ident.specs.Sending.{SendsFront}
 use Rattle.pid_moderation.specs.History.{History}
@@ -11,6 +10,7 @@ use Rattle.pid_moderation.specs.Writes.{tree_of}
 use Rattle.pid_file.specs.Printing.{print}
 use Rattle.pid_service_laws.specs.declared.faults.ExportFault.{ExportFault}
 use Rattle.pid_service_laws.specs.declared.faults.ExportFault.TheVariants.{Refused, Write}
+use Rattle.pid_tables.specs.declared.database.Database.{Ghosts}
 use Rattle.pid_service.specs.Histories.{IsMemoryOrStore}
 use Rattle.pid_service.specs.ItemTexts.{text_of_items}
 use Rattle.pid_file.specs.declared.io.WriteFault.{WriteFault}
@@ -35,15 +35,15 @@ WritesItems (Err (Fault fault)) old new items = SendsFront old new (text_of_item
 WritesItems (Err (Tables fault)) old new items = TakesWholeLines old new items
 
 -- the items of tables at rest were printed
-pub record PrintsItems {S W : Type 0} (store : Ghosts S) (writer : outputs.Ghosts W)
-    (old new : RegistryTables S store) (before after : W)
+pub record PrintsItems {S W : Type 0} (database : Ghosts S) (writer : outputs.Ghosts W)
+    (old new : RegistryTables S database) (before after : W)
     (result : Result (Unit {0}) (EachEnd WriteFault)) : Type 0 where
-  pub rests : OnlyReads store old.conn new.conn
-  pub printed : OverViews store old.conn new.conn
+  pub rests : OnlyReads database.state old.conn new.conn
+  pub printed : OverViews database.state old.conn new.conn
       (λ v. WritesItems result (writer.taken before) (writer.taken after) v.items)
   pub fault : (f : WriteFault) → result ≡ Err (Fault f) → writer.write_fault after ≡ Some f
-  pub caused : OverViews store old.conn new.conn
-      (λ v. IsReadable v → IfErr result (IsCausedEnd store old.conn new.conn))
+  pub caused : OverViews database.state old.conn new.conn
+      (λ v. IsReadable v → IfErr result (IsCausedEnd database.state old.conn new.conn))
 
 -- the same of a registry, whose refusal says why the tables failed
 abbrev pub ExportsTree : {X : Type 0} → Result X ExportFault → Option (List ℕ) → Option (List ℕ)

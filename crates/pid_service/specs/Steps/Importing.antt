@@ -1,7 +1,6 @@
 -- Steps of an import.
 use Rattle.std.specs.Prelude.{◌≡◌, ◌≢◌, ◌⊎◌, ◌≤◌, ◌+◌, ℕ, Bool, true, false, List, length}
 use Rattle.std.specs.Prelude.{Result, Ok, Err}
-use Rattle.sqlite_trees.specs.declared.store.Store.{Ghosts}
 use Rattle.pid_moderation.specs.declared.command.Command.{Command}
 use Rattle.pid_moderation.specs.declared.command.Reply.{Reply}
 use Rattle.pid_moderation.specs.declared.facts.Facts.{Facts}
@@ -17,6 +16,7 @@ use Rattle.pid_tables.specs.Judging.{IsOpen}
 use Rattle.pid_service_laws.specs.Imports.{InputIsRead}
 use Rattle.pid_service_laws.specs.declared.faults.ImportEnd.{ImportEnd}
 use Rattle.pid_service_laws.specs.declared.faults.ImportEnd.TheVariants.{Refused, Body}
+use Rattle.pid_tables.specs.declared.database.Database.{Ghosts}
 use Rattle.pid_service.specs.declared.registry.Registry.{Registry}
 use Rattle.pid_service.specs.Histories.{IsMemoryOrStore, IsReached, OverHistory, Shows}
 use Rattle.pid_service.specs.Importing.{ObeysImport}
@@ -54,42 +54,42 @@ IsPlain (Ok reply) result = result ≡ Ok reply
 IsPlain (Err (Refused e)) result = result ≡ Err e
 IsPlain (Err Body) result = result ≡ Err Store
 
-module _ {S : Type 0} (store : Ghosts S) where
+module _ {S : Type 0} (database : Ghosts S) where
   -- what becomes of a registry at an import, and of its input, whatever text that has
-  pub record EndStays {I : Type 0} (input : inputs.Ghosts I) (old new : Registry S store)
+  pub record EndStays {I : Type 0} (input : inputs.Ghosts I) (old new : Registry S database)
       (before after : I) (result : Result Reply ImportEnd) : Type 0 where
-    pub clean : HasCleanDisk store new → HasCleanDisk store old
+    pub clean : HasCleanDisk database new → HasCleanDisk database old
     pub live : EndStaysLive result (is_live old) (is_live new)
-    pub limit : KeepsLimit store old new
+    pub limit : KeepsLimit database old new
     pub reads : InputIsRead input before after result
 
   -- the registry shows a history, over which the import depends on its file, and it can go on
-  pub record HangsOnFile (r : Registry S store) (facts : Facts) (items : ℕ) (command : Command)
+  pub record HangsOnFile (r : Registry S database) (facts : Facts) (items : ℕ) (command : Command)
       (h : History) (c : Asked) : Type 0 where
-    pub shows : Shows store r h
+    pub shows : Shows database r h
     pub import : is_import command.act ≡ true
     pub waits : IsOpen h command facts
     pub many : items ≡ length (items_of h)
     pub reached : IsReached (after h c)
 
   -- it is obeyed with the file that this text is
-  abbrev pub CarriesText : Registry S store → Registry S store → Result Reply ImportEnd → Facts → ℕ
-      → Command → List ℕ → Type 0
-  CarriesText old new result facts items command text = HasCleanDisk store new → (h : History)
+  abbrev pub CarriesText : Registry S database → Registry S database → Result Reply ImportEnd
+      → Facts → ℕ → Command → List ℕ → Type 0
+  CarriesText old new result facts items command text = HasCleanDisk database new → (h : History)
       → HangsOnFile old facts items command h (asked command (file_reading text))
-      → ObeysImport store result new h (asked command (file_reading text))
+      → ObeysImport database result new h (asked command (file_reading text))
 
   -- the same of an import, whatever was known of it
-  abbrev pub TakesText : Registry S store → Registry S store → Result Reply ImportEnd → Command
-      → List ℕ → Type 0
-  TakesText old new result command text = OverHistory store old new
+  abbrev pub TakesText : Registry S database → Registry S database → Result Reply ImportEnd
+      → Command → List ℕ → Type 0
+  TakesText old new result command text = OverHistory database old new
       (λ h. is_import command.act ≡ true
-      → ObeysImport store result new h (asked command (file_reading text)))
+      → ObeysImport database result new h (asked command (file_reading text)))
 
   -- this is said of what a fault of an import stands for, over the history that was shown, whatever
   -- file it is taken to have
-  abbrev pub CausesImport : Registry S store → Registry S store → Command
+  abbrev pub CausesImport : Registry S database → Registry S database → Command
       → ((Refusal → Type 0) → Type 0) → Type 0
-  CausesImport old new command Says = OverHistory store old new
+  CausesImport old new command Says = OverHistory database old new
       (λ h. (reading : Reading) → is_import command.act ≡ true
-      → Says (ImportFaults store old new h (asked command reading)))
+      → Says (ImportFaults database old new h (asked command reading)))

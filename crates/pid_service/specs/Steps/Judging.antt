@@ -1,7 +1,6 @@
 -- What comes of a command before anything is written.
 use Rattle.std.specs.Prelude.{◌≡◌, ◌≢◌, ◌⊎◌, false, Result, Ok, Err, IfErr}
-use Rattle.sqlite.specs.Held.{Held}
-use Rattle.sqlite_trees.specs.declared.store.Store.{Ghosts}
+use Rattle.sqlite.specs.State.{State}
 use Rattle.pid_moderation.specs.declared.change.Change.{Change}
 use Rattle.pid_moderation.specs.declared.command.Command.{Command}
 use Rattle.pid_moderation.specs.declared.command.Reply.{Reply}
@@ -14,6 +13,7 @@ use Rattle.pid_moderation.specs.History.{Asked, History, Reading, asked, is_impo
 use Rattle.pid_moderation.specs.Judgement.{Accepts, judge, answer, after}
 use Rattle.pid_moderation.specs.Views.{views_of}
 use Rattle.pid_tables.specs.Rows.Clauses.{AtRest, HasCleanDisk, OnlyReads}
+use Rattle.pid_tables.specs.declared.database.Database.{Ghosts}
 use Rattle.pid_service.specs.declared.judging.Judged.{Judged}
 use Rattle.pid_tables.specs.declared.tables.Tables.{Tables}
 use Rattle.pid_service.specs.declared.judging.Judged.TheVariants.{Kept, Accepted}
@@ -40,25 +40,26 @@ abbrev pub OverFacts : Facts → Command → (History → Asked → Type 0) → 
 OverFacts facts command Holds = (h : History) (reading : Reading)
     → facts ≡ facts_of (views_of h) (asked command reading) → Holds h (asked command reading)
 
-module _ {S : Type 0} (store : Ghosts S) where
+module _ {S : Type 0} (state : S → State) where
   -- while the disk returns what was written, this holds of the history that the tables showed, and
   -- of a command that is no import, whatever file it is taken to have
-  abbrev pub OverTables : Held S → Held S → Command → (History → Asked → Type 0) → Type 0
-  OverTables old new command Holds = HasCleanDisk store new → (h : History) (reading : Reading)
-      → IsReached h → AtRest store old (views_of h) → is_import command.act ≡ false
+  abbrev pub OverTables : S → S → Command → (History → Asked → Type 0) → Type 0
+  OverTables old new command Holds = HasCleanDisk state new → (h : History) (reading : Reading)
+      → IsReached h → AtRest state old (views_of h) → is_import command.act ≡ false
       → Holds h (asked command reading)
 
   -- the judgement refuses it so, or a fault has its cause in the call
-  abbrev pub IsJudgedFor : Held S → Held S → History → Asked → Refusal → Type 0
+  abbrev pub IsJudgedFor : S → S → History → Asked → Refusal → Type 0
   IsJudgedFor old new h c e = (answer (judge (views_of h) c) ≡ Err e)
-      ⊎ IsCausedAs store old new e
+      ⊎ IsCausedAs state old new e
 
+module _ {S : Type 0} (database : Ghosts S) where
   -- a command other than an import was judged over the tables, which were only read
-  pub record Judges (old new : Tables S store) (command : Command)
+  pub record Judges (old new : Tables S database) (command : Command)
       (result : Result Judged Refusal) : Type 0 where
-    pub rests : OnlyReads store old.conn new.conn
-    pub judged : OverTables old.conn new.conn command
+    pub rests : OnlyReads database.state old.conn new.conn
+    pub judged : OverTables database.state old.conn new.conn command
         (λ h c. JudgesCommand h c result)
-    pub caused : OverTables old.conn new.conn command
-        (λ h c. IfErr result (IsJudgedFor old.conn new.conn h c))
+    pub caused : OverTables database.state old.conn new.conn command
+        (λ h c. IfErr result (IsJudgedFor database.state old.conn new.conn h c))
     pub alive : IfErr result (λ e. e ≢ Failed)

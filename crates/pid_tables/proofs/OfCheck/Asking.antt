@@ -9,8 +9,6 @@ use Rattle.sqlite.specs.Order.{Row}
 use Rattle.sqlite.specs.Listing.{understood}
 use Rattle.sqlite.specs.Schema.{Schema}
 use Rattle.sqlite.specs.State.{State, HasCleanDisk, Survives, IsUnchanged, IsRolledBack, IsNotRun, store_error}
-use Rattle.sqlite.specs.Held.{Held, state}
-use Rattle.sqlite_trees.specs.declared.store.Store.{Ghosts}
 use Rattle.sqlite.specs.declared.error.Error.{Error}
 use Rattle.sqlite_resolve.specs.declared.compiled.Compiled.{Compiled}
 use Rattle.sqlite_resolve.specs.declared.error.CompileError.{CompileError}
@@ -97,10 +95,10 @@ pub same_then : (a b c : State) → IsSame a b → OnlyReads b c → (HasCleanDi
 same_then a b c one rests same = (reads_then a b c one.0 rests, λ clean. same clean ∙ one.1 (rests.clean clean))
 
 -- what was asked on from the first on was open from the first on
-pub still_open : {S : Type 0} (g : Ghosts S) (a b : Held S) (c : State) (n : ℕ) → OnlyReads (state g b) c → (n ≡ 0 → b ≡ a) → (HasCleanDisk (state g b) → 0 < n → IsTrue (state g a).is_open) → IsTrue (state g b).is_open → HasCleanDisk c
-    → IsTrue (state g a).is_open
-still_open g a b c zero rests first later opened clean = subst (λ h. IsTrue (state g h).is_open) (first refl) opened
-still_open g a b c (suc n) rests first later opened clean = later (rests.clean clean) (omega arith)
+pub still_open : {S : Type 0} (state : S → State) (a b : S) (c : State) (n : ℕ) → OnlyReads (state b) c → (n ≡ 0 → b ≡ a) → (HasCleanDisk (state b) → 0 < n → IsTrue (state a).is_open) → IsTrue (state b).is_open → HasCleanDisk c
+    → IsTrue (state a).is_open
+still_open state a b c zero rests first later opened clean = subst (λ h. IsTrue (state h).is_open) (first refl) opened
+still_open state a b c (suc n) rests first later opened clean = later (rests.clean clean) (omega arith)
 
 -- a cause in what came later
 pub caused_then : (a b c : State) (e : TableFault) → IsSame a b → OnlyReads b c → HasCleanDisk c → IsCaused b c e → IsCaused a c e

@@ -34,7 +34,8 @@ use Rattle.pid_moderation.specs.Views.{Views}
 use Rattle.pid_tables.specs.declared.rows.schema_version.Version.TheVariants.{Two}
 use Rattle.pid_tables.specs.Rows.Schema.{schema_of, pid_schema, item_since}
 use Rattle.pid_tables.specs.Rows.Steps.Queries.{IsQuery}
-use Rattle.pid_tables.specs.Rows.Shows.{Counts, ShowsCounting}
+use Rattle.pid_tables.specs.Rows.Shows.{Counts}
+use Rattle.pid_tables.specs.Rows.Steps.Shows.{ShowsCounting}
 use Rattle.pid_tables.specs.Rows.TableRows.{number, since_row}
 use Rattle.pid_tables.proofs.OfRows.Lengths.{IsDistinct}
 use Rattle.pid_tables.proofs.OfRows.MapLemmas.{none_over}

@@ -30,7 +30,8 @@ use Rattle.pid_tables.specs.declared.rows.schema_version.Version.TheVariants.{Tw
 use Rattle.pid_tables.specs.Rows.Schema.{pid_schema}
 use Rattle.pid_tables.specs.Rows.TableRows.{item_row}
 use Rattle.pid_tables.specs.Rows.Steps.Answers.{item_shown}
-use Rattle.pid_tables.specs.Rows.Shows.{Counts, ShowsCounting}
+use Rattle.pid_tables.specs.Rows.Shows.{Counts}
+use Rattle.pid_tables.specs.Rows.Steps.Shows.{ShowsCounting}
 use Rattle.pid_tables.proofs.OfRows.Statements.{program, listing, whole, IsAlone, command_alone, plain_alone}
 use Rattle.pid_tables.proofs.OfRows.MapLemmas.{none_over}
 use Rattle.pid_tables.proofs.OfRows.QueryTexts.{IsOneAs, one_alone, in_order}

@@ -41,7 +41,8 @@ use Rattle.pid_tables.proofs.OfRows.DecodeLemmas.{HaveOnePath, mapped_some, stan
 use Rattle.pid_tables.proofs.OfRows.ReadBack.{standing_readable}
 use Rattle.pid_tables.specs.Rows.Causes.{IsReadable}
 use Rattle.std.proofs.lemmas.Option.{slice_get_within}
-use Rattle.pid_tables.specs.Rows.Shows.{Counts, ShowsCounting, AreViews}
+use Rattle.pid_tables.specs.Rows.Shows.{Counts, AreViews}
+use Rattle.pid_tables.specs.Rows.Steps.Shows.{ShowsCounting}
 use Rattle.pid_tables.proofs.OfRows.Statements.{program, listing, IsAlone, command_alone, plain_alone}
 use Rattle.pid_tables.proofs.OfRows.MapLemmas.{none_over}
 use Rattle.pid_tables.proofs.OfRows.QueryTexts.{IsOneAs, one_alone, in_order}

@@ -32,7 +32,8 @@ use Rattle.pid_moderation.specs.Views.{Views, Remark}
 use Rattle.pid_tables.specs.Rows.Schema.{pid_schema, remark}
 use Rattle.pid_tables.specs.Rows.TableRows.{number, remark_row}
 use Rattle.pid_tables.specs.Rows.Steps.Answers.{remark_shown}
-use Rattle.pid_tables.specs.Rows.Shows.{Counts, ShowsCounting, counted_from_one}
+use Rattle.pid_tables.specs.Rows.Shows.{Counts, counted_from_one}
+use Rattle.pid_tables.specs.Rows.Steps.Shows.{ShowsCounting}
 use Rattle.pid_tables.proofs.OfRows.Statements.{program, listing, whole, IsAlone, command_alone, plain_alone}
 use Rattle.pid_tables.proofs.OfRows.MapLemmas.{none_over}
 use Rattle.pid_tables.proofs.OfRows.QueryTexts.{IsOneAs, one_alone, in_order}

@@ -32,7 +32,8 @@ use Rattle.pid_tables.specs.Lists.Steps.RemarkRows.{IsReadablePlaced, placed_row
 use Rattle.pid_tables.specs.Rows.Causes.{IsReadable, IsReadableRemark}
 use Rattle.pid_tables.specs.Rows.Steps.Queries.{IsQuery}
 use Rattle.pid_tables.specs.Rows.Schema.{pid_schema}
-use Rattle.pid_tables.specs.Rows.Shows.{Counts, ShowsCounting, counted_from_one}
+use Rattle.pid_tables.specs.Rows.Shows.{Counts, counted_from_one}
+use Rattle.pid_tables.specs.Rows.Steps.Shows.{ShowsCounting}
 use Rattle.pid_tables.specs.Rows.TableRows.{number, remark_row}
 use Rattle.pid_tables.proofs.OfRows.MapLemmas.{none_over}
 use Rattle.pid_tables.proofs.OfRows.QueryTexts.{IsOneAs, one_alone, in_order}

@@ -40,7 +40,8 @@ use Rattle.pid_tables.specs.Rows.TableRows.{number, submission_row}
 use Rattle.pid_tables.specs.Rows.Steps.Answers.{value_row}
 use Rattle.pid_tables.specs.Rows.Causes.{IsReadable}
 use Rattle.pid_tables.specs.Rows.Steps.Queries.{IsQuery}
-use Rattle.pid_tables.specs.Rows.Shows.{Counts, ShowsCounting}
+use Rattle.pid_tables.specs.Rows.Shows.{Counts}
+use Rattle.pid_tables.specs.Rows.Steps.Shows.{ShowsCounting}
 use Rattle.pid_tables.proofs.OfRows.MapLemmas.{none_over}
 use Rattle.pid_tables.proofs.OfRows.OneRowEach.{rowids_apart}
 use Rattle.pid_tables.proofs.OfRows.QueryTexts.{IsOneAs, one_alone, in_order}

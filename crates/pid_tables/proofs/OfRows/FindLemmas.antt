@@ -4,8 +4,6 @@ use Rattle.std.specs.Prelude.{option_map}
 use Rattle.sqlite.specs.declared.types.Value.TheVariants.{Text}
 use Rattle.sqlite.specs.Order.{Row}
 use Rattle.sqlite.specs.State.{State, Shown}
-use Rattle.sqlite.specs.Held.{Held, state}
-use Rattle.sqlite_trees.specs.declared.store.Store.{Ghosts}
 use Rattle.pid_moderation.specs.Items.{name_at}
 use Rattle.pid_moderation.specs.Views.{Views}
 use Rattle.pid_tables.specs.declared.rows.schema_version.Version.{Version}
@@ -41,32 +39,32 @@ module _ {version : Version} {numbers : Numbers} (old new : State) (c : Counts) 
   reply_found who token h = map_found receipt_row by_both _ receipt_found (receipt_in v) (who, token) (schema_of version) receipt 5 refl receipt_plain old new shows.schema shows.receipts select_receipt _ _ (select_receipt_is version) reply_row (λ id v. refl) answer h
 
 -- the same, read in a transaction of its own on tables at rest
-pub rows_at_rest : {S : Type 0} (g : Ghosts S) (old : Held S) (v : Views) (sql : List ℕ) (params : Row) (rows : List Row) (P : Type 0) → AtRest (state g old) v
-    → ((mid : State) → Shows (state g (record old { in_transaction = true })).now v → Shown sql params (state g (record old { in_transaction = true })) mid rows → P)
-    → (mid : Held S) × Shown sql params (state g (record old { in_transaction = true })) (state g mid) rows → P
-rows_at_rest g old v sql params rows P rest told h = told (state g h.0) (rest.shows (shown_passes sql params (state g (record old { in_transaction = true })) (state g h.0) rows h.1).was_open) h.1
+pub rows_at_rest : {S : Type 0} (state : S → State) (old : S) (v : Views) (sql : List ℕ) (params : Row) (rows : List Row) (P : Type 0) → AtRest (state old) v
+    → ((mid : State) → Shows (record (state old) { in_transaction = true }).now v → Shown sql params (record (state old) { in_transaction = true }) mid rows → P)
+    → (mid : S) × Shown sql params (record (state old) { in_transaction = true }) (state mid) rows → P
+rows_at_rest state old v sql params rows P rest told h = told (state h.0) (rest.shows (shown_passes sql params (record (state old) { in_transaction = true }) (state h.0) rows h.1).was_open) h.1
 
 -- whatever the read answers
-pub at_rest : {S X : Type 0} (g : Ghosts S) (old : Held S) (new : State) (v : Views) (sql : List ℕ) (params : Row) (r : Result X TableFault) (rows : X → List Row) (P : X → Type 0) → AtRest (state g old) v
-    → ((mid : State) (x : X) → Shows (state g (record old { in_transaction = true })).now v → Shown sql params (state g (record old { in_transaction = true })) mid (rows x) → P x)
-    → IfOk r (λ x. (mid : Held S) × Shown sql params (state g (record old { in_transaction = true })) (state g mid) (rows x)) → IfErr r (IsCaused (state g old) new)
-    → MatchResult r P (λ fault. IsReadable v → IsCaused (state g old) new fault)
-at_rest g old new v sql params (Ok x) rows P rest told h caused = rows_at_rest g old v sql params (rows x) (P x) rest (λ mid. told mid x) h
-at_rest g old new v sql params (Err e) rows P rest told h caused = λ readable. caused
+pub at_rest : {S X : Type 0} (state : S → State) (old : S) (new : State) (v : Views) (sql : List ℕ) (params : Row) (r : Result X TableFault) (rows : X → List Row) (P : X → Type 0) → AtRest (state old) v
+    → ((mid : State) (x : X) → Shows (record (state old) { in_transaction = true }).now v → Shown sql params (record (state old) { in_transaction = true }) mid (rows x) → P x)
+    → IfOk r (λ x. (mid : S) × Shown sql params (record (state old) { in_transaction = true }) (state mid) (rows x)) → IfErr r (IsCaused (state old) new)
+    → MatchResult r P (λ fault. IsReadable v → IsCaused (state old) new fault)
+at_rest state old new v sql params (Ok x) rows P rest told h caused = rows_at_rest state old v sql params (rows x) (P x) rest (λ mid. told mid x) h
+at_rest state old new v sql params (Err e) rows P rest told h caused = λ readable. caused
 
 -- the first row that a read by a key answers, in a transaction of its own on tables at rest
-module _ {S : Type 0} (g : Ghosts S) (old : Held S) (v : Views) (rest : AtRest (state g old) v) (rows : List Row) where
+module _ {S : Type 0} (state : S → State) (old : S) (v : Views) (rest : AtRest (state old) v) (rows : List Row) where
   abbrev pub Answers : List ℕ → Row → Type 0
-  Answers sql params = (mid : Held S) × Shown sql params (state g (record old { in_transaction = true })) (state g mid) rows
+  Answers sql params = (mid : S) × Shown sql params (record (state old) { in_transaction = true }) (state mid) rows
 
   pub rank_first : (name : List ℕ) → Answers select_account (Text name ∷ []) → slice_get rows 0 ≡ option_map rank_row (v.rank name)
-  rank_first name h = rows_at_rest g old v select_account _ rows (slice_get rows 0 ≡ option_map rank_row (v.rank name)) rest (λ mid shows h. rank_found _ mid (counts_of v) v shows rows name h) h
+  rank_first name h = rows_at_rest state old v select_account _ rows (slice_get rows 0 ≡ option_map rank_row (v.rank name)) rest (λ mid shows h. rank_found _ mid (counts_of v) v shows rows name h) h
 
   pub name_first : (path : List ℕ) → Answers select_item (Text path ∷ []) → slice_get rows 0 ≡ option_map name_row (name_at path v.items)
-  name_first path h = rows_at_rest g old v select_item _ rows (slice_get rows 0 ≡ option_map name_row (name_at path v.items)) rest (λ mid shows h. name_found _ mid (counts_of v) v shows rows path h) h
+  name_first path h = rows_at_rest state old v select_item _ rows (slice_get rows 0 ≡ option_map name_row (name_at path v.items)) rest (λ mid shows h. name_found _ mid (counts_of v) v shows rows path h) h
 
   pub standing_first : (n : ℕ) → Answers select_submission (number n ∷ []) → AreViews v × (slice_get rows 0 ≡ option_map standing_row (standing_in v n))
-  standing_first n h = rows_at_rest g old v select_submission _ rows (AreViews v × (slice_get rows 0 ≡ option_map standing_row (standing_in v n))) rest (λ mid shows h. (shows.views, standing_found _ mid (counts_of v) v shows rows n h)) h
+  standing_first n h = rows_at_rest state old v select_submission _ rows (AreViews v × (slice_get rows 0 ≡ option_map standing_row (standing_in v n))) rest (λ mid shows h. (shows.views, standing_found _ mid (counts_of v) v shows rows n h)) h
 
   pub reply_first : (who token : List ℕ) → Answers select_receipt (Text who ∷ Text token ∷ []) → slice_get rows 0 ≡ option_map reply_row (v.kept who token)
-  reply_first who token h = rows_at_rest g old v select_receipt _ rows (slice_get rows 0 ≡ option_map reply_row (v.kept who token)) rest (λ mid shows h. reply_found _ mid (counts_of v) v shows rows who token h) h
+  reply_first who token h = rows_at_rest state old v select_receipt _ rows (slice_get rows 0 ≡ option_map reply_row (v.kept who token)) rest (λ mid shows h. reply_found _ mid (counts_of v) v shows rows who token h) h

@@ -9,8 +9,9 @@ use Rattle.sqlite.specs.State.{State, Survives, KeepsCommit, ExecutesInside}
 use Rattle.sqlite.specs.State.{HasCleanDisk}
 use Rattle.sqlite.specs.declared.error.Error.{Error}
 use Rattle.pid_moderation.specs.Views.{Views}
-use Rattle.pid_tables.specs.Rows.Shows.{Counts, ShowsCounting, Shows}
-use Rattle.pid_tables.specs.Rows.Leaves.{KeepsCommitted, Within, Written}
+use Rattle.pid_tables.specs.Rows.Shows.{Counts, Shows}
+use Rattle.pid_tables.specs.Rows.Steps.Shows.{ShowsCounting}
+use Rattle.pid_tables.specs.Rows.Steps.Within.{KeepsCommitted, Within, Written}
 use Rattle.pid_tables.specs.Rows.Steps.Turns.{GoesOn}
 use Rattle.pid_tables.proofs.OfRows.LeaveLemmas.{leaves_on}
 

@@ -8,7 +8,6 @@ use Rattle.sqlite.specs.Clock.{timed}
 use Rattle.sqlite.specs.Collation.TheVariants.{Binary}
 use Rattle.sqlite.specs.Command.TheVariants.{Select}
 use Rattle.sqlite.specs.Effect.{Database, Reads}
-use Rattle.sqlite.specs.Held.{Held, state}
 use Rattle.sqlite.specs.Listing.{understood, IsSourceOf}
 use Rattle.sqlite.specs.Ops.{binary}
 use Rattle.sqlite.specs.Order.{Row, column, value_cmp}
@@ -25,7 +24,6 @@ use Rattle.sqlite_rules.specs.Lists.{Has}
 use Rattle.sqlite_rules.proofs.ListLemmas.{has_filtered, has_kept}
 use Rattle.sqlite_rules.proofs.ProbeLemmas.{mapped_has}
 use Rattle.sqlite_schema.specs.Rules.{equal}
-use Rattle.sqlite_trees.specs.declared.store.Store.{Ghosts}
 use Rattle.pid_tables.specs.declared.rows.fault.TableFault.{TableFault}
 use Rattle.pid_tables.specs.declared.rows.fault.TableFault.TheVariants.{Memory, Store, NewerSchema, Damaged}
 use Rattle.pid_tables.specs.Rows.Faults.{IsMemoryOrStore, IsNotNewerSchema}
@@ -50,10 +48,10 @@ shown_values label old new rows h =
     let it = subst (ShowsRows old new value_text h.0 (timed (Text label ∷ []) h.0.formats h.1.now) rows) plain.0 h.2 in
     record { query = h.0; is = h.1.is; source = it.0; from = it.1; answer = subst (λ formats. Reads h.0.command it.0 (timed (Text label ∷ []) formats h.1.now) rows) plain.1 it.2 }
 
-pub values_shown : {S : Type 0} (g : Ghosts S) (label : List ℕ) (old : State) (r : Result (Vec Row Global) TableFault) → IfOk r (λ rows. (mid : Held S) × Shown value_text (Text label ∷ []) old (state g mid) rows.items)
+pub values_shown : {S : Type 0} (state : S → State) (label : List ℕ) (old : State) (r : Result (Vec Row Global) TableFault) → IfOk r (λ rows. (mid : S) × Shown value_text (Text label ∷ []) old (state mid) rows.items)
     → IfOk r (λ rows. ShowsValues old.now label rows.items)
-values_shown g label old (Ok rows) h = shown_values label old (state g h.0) rows.items h.1
-values_shown g label old (Err e) h = tt
+values_shown state label old (Ok rows) h = shown_values label old (state h.0) rows.items h.1
+values_shown state label old (Err e) h = tt
 
 -- the first row's number is shown
 pub number_shown : (db : Database) (label : List ℕ) (rows : List Row) (x : Row) → ShowsValues db label rows → Some x ≡ slice_get rows 0 → (r : Result ℕ TableFault) → IfOk r (λ n. column x 0 ≡ number n) → IfOk r (ShowsNumber db label)

@@ -12,7 +12,8 @@ use Rattle.pid_tables.specs.Rows.Shows.{Counts, Numbers, ShowsKeeping, Shows}
 use Rattle.pid_tables.specs.declared.rows.schema_version.Version.{Version}
 use Rattle.pid_tables.specs.declared.rows.schema_version.Version.TheVariants.{Two}
 use Rattle.pid_tables.specs.Rows.Schema.{schema_of}
-use Rattle.pid_tables.specs.Rows.Leaves.{found_in, LeavesViews, LeavesShown, AtRest, RestsIn, KeepsCommitted, Written}
+use Rattle.pid_tables.specs.Rows.Leaves.{found_in, LeavesViews, LeavesShown, AtRest, RestsIn}
+use Rattle.pid_tables.specs.Rows.Steps.Within.{KeepsCommitted, Written}
 
 pub leaves_on : (old new : State) (v : Views) → Survives old new (λ _. ⊥) → LeavesViews old v → LeavesViews new v
 leaves_on old new v s all = record { each = λ clean db may. elim (s.crash clean db may) [ inl was ↦ all.each (omega (arith, s.clean)) db was | inr none ↦ absurd none ] }

@@ -19,7 +19,8 @@ use Rattle.pid_tables.specs.Rows.Steps.Moving.{IsBetween}
 use Rattle.pid_tables.specs.Rows.PairRows.{RowsAre}
 use Rattle.pid_tables.specs.Rows.Steps.Queries.{IsWriteAs}
 use Rattle.pid_tables.specs.Rows.Schema.{schema_of, meta, item_since}
-use Rattle.pid_tables.specs.Rows.Shows.{Counts, ShowsKeeping, ShowsCounting, labels_of, numbers_in, remark_in, receipt_in, since_in}
+use Rattle.pid_tables.specs.Rows.Shows.{Counts, ShowsKeeping, labels_of, numbers_in, remark_in, receipt_in, since_in}
+use Rattle.pid_tables.specs.Rows.Steps.Shows.{ShowsCounting}
 use Rattle.pid_moderation.specs.Submissions.{standing_in}
 use Rattle.pid_tables.specs.Rows.TableRows.{number, meta_row, account_row, item_row, submission_row, remark_row, receipt_row, since_row}
 use Rattle.pid_tables.proofs.OfRows.KeyTexts.{by_first, pair_terms, pair_change, insert_meta_is, update_meta_is}

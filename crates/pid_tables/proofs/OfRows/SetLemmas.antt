@@ -25,7 +25,7 @@ use Rattle.pid_tables.specs.declared.rows.schema_version.Version.TheVariants.{On
 use Rattle.pid_tables.specs.Rows.Schema.{version_number}
 use Rattle.pid_moderation.specs.Submissions.{Standing, decider_of, standing_in}
 use Rattle.pid_tables.specs.Rows.Shows.{Counts, labels_of, more_labels, counted_from_one, remark_in, receipt_in, since_in, numbers_in}
-use Rattle.pid_tables.specs.Rows.Writes.{with_name}
+use Rattle.pid_tables.specs.Rows.Steps.Writes.{with_name}
 use Rattle.pid_tables.specs.Rows.Steps.Writes.{without_item, with_submission, with_state, with_remark, with_reply}
 use Rattle.pid_tables.specs.Rows.Steps.Writes.{with_number, NamesDecider}
 use Rattle.pid_tables.proofs.OfRows.MapLemmas.{Sets}

@@ -15,7 +15,7 @@ use Rattle.pid_tables.specs.Rows.Schema.{schema_of, item_since, to_item}
 use Rattle.pid_tables.specs.Rows.Shows.{ShowsNumbers, labels_of, counts_of, numbers_in, since_in}
 use Rattle.pid_tables.specs.Rows.Steps.Shows.{meta_of}
 use Rattle.pid_tables.specs.Rows.TableRows.{since_row}
-use Rattle.pid_tables.specs.Rows.Writes.{with_name}
+use Rattle.pid_tables.specs.Rows.Steps.Writes.{with_name}
 use Rattle.pid_tables.specs.Rows.Steps.Writes.{with_revision, without_item}
 use Rattle.pid_tables.proofs.OfRows.StatementTexts.{create_since}
 

@@ -19,8 +19,9 @@ use Rattle.pid_tables.specs.declared.rows.schema_version.Version.TheVariants.{Tw
 use Rattle.pid_tables.specs.Rows.Schema.{schema_of, meta, account, item, submission, remark, receipt, item_since}
 use Rattle.pid_tables.specs.Rows.TableRows.{number, meta_row, account_row, item_row, submission_row, remark_row, receipt_row, since_row, form_of, name_of, state_number, reply_kind, first_number, second_number, third_number}
 use Rattle.pid_moderation.specs.Submissions.{decider_of, reason_of, standing_in}
-use Rattle.pid_tables.specs.Rows.Shows.{Counts, Numbers, ShowsKeeping, ShowsCounting, labels_of, remark_in, receipt_in, since_in, numbers_in}
-use Rattle.pid_tables.specs.Rows.Writes.{with_name}
+use Rattle.pid_tables.specs.Rows.Shows.{Counts, Numbers, ShowsKeeping, labels_of, remark_in, receipt_in, since_in, numbers_in}
+use Rattle.pid_tables.specs.Rows.Steps.Shows.{ShowsCounting}
+use Rattle.pid_tables.specs.Rows.Steps.Writes.{with_name}
 use Rattle.pid_tables.specs.Rows.Steps.Writes.{with_rank, with_revision, without_item, with_submission, with_state, with_remark, with_reply}
 use Rattle.pid_tables.specs.Rows.Steps.Writes.{with_item_named, with_number, NamesDecider}
 use Rattle.pid_tables.proofs.OfRows.WriteLemmas.{cast_null, cast_int}

@@ -28,7 +28,8 @@ use Rattle.pid_moderation.specs.Views.{Views, Submitted}
 use Rattle.pid_tables.specs.Searches.Steps.FilingRows.{filing_row}
 use Rattle.pid_tables.specs.Rows.Steps.Queries.{IsQuery}
 use Rattle.pid_tables.specs.Rows.Schema.{pid_schema}
-use Rattle.pid_tables.specs.Rows.Shows.{Counts, ShowsCounting}
+use Rattle.pid_tables.specs.Rows.Shows.{Counts}
+use Rattle.pid_tables.specs.Rows.Steps.Shows.{ShowsCounting}
 use Rattle.pid_tables.specs.Rows.TableRows.{number, submission_row}
 use Rattle.pid_tables.proofs.OfLists.FallingLemmas.{above}
 use Rattle.pid_tables.proofs.OfLists.ItemLists.{kept_distinct, finer_distinct}

@@ -16,7 +16,7 @@
 -- `Within`: the connection is open. A read goes from at rest to at rest (`OnlyReads`), a call in a
 -- transaction stays in it (`GoesOn`) and leads on to the next views (`LeadsTo`). A connection that
 -- a fault has shut shows nothing, but what a crash leaves is as good as it was. `GoesOn` and
--- `LeadsTo` are in Steps/Turns.
+-- `LeadsTo` are in Steps/Turns, `KeepsCommitted`, `Within` and `Written` in Steps/Within.
 --
 -- All of it is of schema 2. `RestsIn` is at rest in one schema or the other.
 use Rattle.std.specs.Prelude.{◌≡◌, ◌⊎◌, false, Result, MatchResult, IsTrue}
@@ -29,7 +29,7 @@ use Rattle.pid_tables.specs.declared.rows.fault.TableFault.{TableFault}
 use Rattle.pid_tables.specs.Rows.Causes.{IsCaused, IsReadable}
 use Rattle.pid_tables.specs.declared.rows.schema_version.Version.{Version}
 use Rattle.pid_tables.specs.Rows.Schema.{schema_of, pid_schema}
-use Rattle.pid_tables.specs.Rows.Shows.{Counts, ShowsIn, ShowsCounting, Shows}
+use Rattle.pid_tables.specs.Rows.Shows.{ShowsIn, Shows}
 
 -- trees as an open finds them, with the schema that they list
 abbrev pub found_in : Schema → Trees → Database
@@ -71,24 +71,6 @@ pub record AtRest (s : State) (v : Views) : Type 0 where
   pub same : IsTrue s.is_open → s.now ≡ s.committed
   pub shows : IsTrue s.is_open → Shows s.now v
   pub leaves : LeavesViews s v
-
--- whatever a transaction does, what was committed before it shows the views, and so does each thing
--- that a crash may leave
-pub record KeepsCommitted (s : State) (v : Views) : Type 0 where
-  pub committed : IsTrue s.is_open → Shows s.committed v
-  pub leaves : LeavesViews s v
-
--- a transaction is under way that holds the first views and shows the second, if meta has these
--- counts
-pub record Within (c : Counts) (s : State) (held now : Views) : Type 0 where
-  pub inside : HasCleanDisk s → IsTrue s.in_transaction
-  pub holds : KeepsCommitted s held
-  pub shows : IsTrue s.is_open → ShowsCounting c s.now now
-
--- the same, once a statement was carried out: no fault has shut the connection
-pub record Written (c : Counts) (s : State) (held now : Views) : Type 0 where
-  pub within : Within c s held now
-  pub opened : HasCleanDisk s → IsTrue s.is_open
 
 -- while it is open, the connection sees this database, and it is committed
 pub record RestsOn (s : State) (d : Database) : Type 0 where

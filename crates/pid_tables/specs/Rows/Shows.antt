@@ -103,10 +103,6 @@ numbers_in v = record { revision = v.revision; since = since_in v }
 abbrev pub ShowsIn : Version → Database → Views → Type 0
 ShowsIn version db v = ShowsKeeping version (counts_of v) (numbers_in v) db v
 
--- tables of schema 2 show the views, but that meta has these counts
-abbrev pub ShowsCounting : Counts → Database → Views → Type 0
-ShowsCounting counts db v = ShowsKeeping Two counts (numbers_in v) db v
-
 -- tables of schema 2, which this program makes, show the views
 abbrev pub Shows : Database → Views → Type 0
 Shows db v = ShowsIn Two db v

@@ -12,3 +12,5 @@ pub mod Turns
 pub mod Clauses
 pub mod Faults
 pub mod LabelRows
+pub mod Batches
+pub mod Within

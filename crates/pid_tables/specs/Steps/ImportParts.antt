@@ -18,7 +18,7 @@ use Rattle.pid_moderation.specs.Judgement.{judge, answer, after}
 use Rattle.pid_moderation.specs.Views.{views_of, items_of, revision_of}
 use Rattle.pid_tables.specs.declared.rows.fault.TableFault.{TableFault}
 use Rattle.pid_tables.specs.Rows.Shows.{counts_of}
-use Rattle.pid_tables.specs.Applies.{CountsFit}
+use Rattle.pid_tables.specs.Steps.Fits.{CountsFit}
 use Rattle.pid_tables.specs.declared.put_file.Stop.{Stop}
 use Rattle.pid_tables.specs.declared.put_file.Stop.TheVariants as stops
 use Rattle.pid_tables.specs.declared.tally.Tally.{Tally}

@@ -1,11 +1,10 @@
 -- Steps of Making: the first rows of a new registry.
 use Rattle.std.specs.Prelude.{◌≡◌, ℕ, List, [], ◌∷◌, ◌++◌, codes, None, Result, IsTrue}
 use Rattle.std.specs.Prelude.{IfErr, MatchResult, OnOk}
-use Rattle.sqlite.specs.Held.{Held, state}
+use Rattle.sqlite.specs.State.{State}
 use Rattle.sqlite.specs.Table.{Table}
-use Rattle.sqlite.specs.declared.transaction.Transaction.{Transaction}
+use Rattle.pid_tables.specs.Rows.Steps.Batches.{Batches}
 use Rattle.sqlite.specs.declared.types.Value.TheVariants.{Text}
-use Rattle.sqlite_trees.specs.declared.store.Store.{Ghosts}
 use Rattle.pid_moderation.specs.History.{new_history}
 use Rattle.pid_moderation.specs.Views.{views_of}
 use Rattle.pid_tables.specs.declared.rows.fault.TableFault.{TableFault}
@@ -54,84 +53,85 @@ label_statements = (new_label_text, Text (codes "revision") ∷ number 0 ∷ [])
 abbrev pub root_statement : Statement
 root_statement = (new_account_text, Text (codes "root") ∷ number 3 ∷ [])
 
-module _ {S : Type 0} (store : Ghosts S) where
+module _ {S : Type 0} (state : S → State) where
   -- in any database, a step that answers a value has carried out these, and nothing else
-  abbrev pub CarriesOut : {X : Type 0} → Held S → Held S → Result X TableFault → List Statement
+  abbrev pub CarriesOut : {X : Type 0} → S → S → Result X TableFault → List Statement
       → Type 0
-  CarriesOut old new result statements = HasCleanDisk store new → IsTrue old.in_transaction
-      → OnOk result (CarriedOut store statements old new)
-
-  -- a step of the making inside a transaction, which goes on
-  pub record CarriesInside {X : Type 0} (old new : Transaction S) (result : Result X TableFault)
-      (statements : List Statement) : Type 0 where
-    pub same_reference : new.conn.ghost_name ≡ old.conn.ghost_name
-    pub goes : GoesOn (state store old.conn.now) (state store new.conn.now) result
-    pub carried : CarriesOut old.conn.now new.conn.now result statements
+  CarriesOut old new result statements = HasCleanDisk state new → IsTrue (state old).in_transaction
+      → OnOk result (CarriedOut state statements old new)
 
   -- a step that adds labels: meta has these rows before, and those then
-  abbrev pub AddsLabels : {X : Type 0} → Held S → Held S → Result X TableFault → Map (List ℕ) ℕ
+  abbrev pub AddsLabels : {X : Type 0} → S → S → Result X TableFault → Map (List ℕ) ℕ
       → Map (List ℕ) ℕ → Type 0
-  AddsLabels old new result before after = HasCleanDisk store new → IsTrue old.in_transaction
-      → HasOnlyMeta before (seen store old)
-      → MatchResult result (λ _. HasOnlyMeta after (seen store new)) IsMemoryOrStore
+  AddsLabels old new result before after = HasCleanDisk state new → IsTrue (state old).in_transaction
+      → HasOnlyMeta before (seen state old)
+      → MatchResult result (λ _. HasOnlyMeta after (seen state new)) IsMemoryOrStore
 
   -- if there was no table, those of a new registry are there then
-  abbrev pub MakesRegistry : {X : Type 0} → Held S → Held S → Result X TableFault → Type 0
-  MakesRegistry old new result = HasCleanDisk store new → IsTrue old.in_transaction
-      → (IsTrue (is_open store old) → AreMade [] (seen store old))
-      → MatchResult result (λ _. Shows (seen store new) (views_of new_history)) IsMemoryOrStore
+  abbrev pub MakesRegistry : {X : Type 0} → S → S → Result X TableFault → Type 0
+  MakesRegistry old new result = HasCleanDisk state new → IsTrue (state old).in_transaction
+      → (IsTrue (is_open state old) → AreMade [] (seen state old))
+      → MatchResult result (λ _. Shows (seen state new) (views_of new_history)) IsMemoryOrStore
+
+module _ {S : Type 0} (batch : Batches S) where
+  -- a step of the making inside a transaction, which goes on
+  pub record CarriesInside {X : Type 0} (old new : S) (result : Result X TableFault)
+      (statements : List Statement) : Type 0 where
+    pub same_reference : batch.reference new ≡ batch.reference old
+    pub goes : GoesOn (batch.state old) (batch.state new) result
+    pub carried : CarriesOut batch.state old new result statements
 
   -- a step that makes one table
-  pub record MakesOne {X : Type 0} (sql : List ℕ) (old new : Transaction S)
+  pub record MakesOne {X : Type 0} (sql : List ℕ) (old new : S)
       (result : Result X TableFault) : Type 0 where
     pub works : CarriesInside old new result ((sql, []) ∷ [])
     pub made : (before : List Table) (table : Table) → Creates before sql table
         → (making before).tables ≡ before
-        → Makes store old.conn.now new.conn.now result before (before ++ table ∷ [])
+        → Makes batch.state old new result before (before ++ table ∷ [])
     pub takes : (name : List ℕ) → IsMakerOf sql name
-        → Takes store old.conn.now new.conn.now result (name ∷ [])
+        → Takes batch.state old new result (name ∷ [])
 
   -- a step that makes three tables in turn
-  pub record MakesThree {X : Type 0} (first second third : List ℕ) (old new : Transaction S)
+  pub record MakesThree {X : Type 0} (first second third : List ℕ) (old new : S)
       (result : Result X TableFault) : Type 0 where
     pub works : CarriesInside old new result
         ((first, []) ∷ (second, []) ∷ (third, []) ∷ [])
     pub made : (before : List Table) (a b c : Table)
         → CreatesInTurn before ((first, a) ∷ (second, b) ∷ (third, c) ∷ [])
-        → Makes store old.conn.now new.conn.now result before
+        → Makes batch.state old new result before
         (((before ++ a ∷ []) ++ b ∷ []) ++ c ∷ [])
     pub takes : (a b c : List ℕ) → IsMakerOf first a → IsMakerOf second b → IsMakerOf third c
-        → Takes store old.conn.now new.conn.now result (a ∷ b ∷ c ∷ [])
+        → Takes batch.state old new result (a ∷ b ∷ c ∷ [])
 
   -- a step that makes all tables
-  pub record MakesAll {X : Type 0} (old new : Transaction S) (result : Result X TableFault)
+  pub record MakesAll {X : Type 0} (old new : S) (result : Result X TableFault)
       : Type 0 where
     pub works : CarriesInside old new result all_statements
-    pub made : Makes store old.conn.now new.conn.now result [] all_tables
-    pub takes : Takes store old.conn.now new.conn.now result table_names
+    pub made : Makes batch.state old new result [] all_tables
+    pub takes : Takes batch.state old new result table_names
 
   -- a step that adds all labels
-  pub record LabelsAll {X : Type 0} (old new : Transaction S) (result : Result X TableFault)
+  pub record LabelsAll {X : Type 0} (old new : S) (result : Result X TableFault)
       : Type 0 where
     pub works : CarriesInside old new result label_statements
     pub never : IfErr result IsNotNewerSchema
-    pub added : AddsLabels old.conn.now new.conn.now result (λ _. None)
+    pub added : AddsLabels batch.state old new result (λ _. None)
         (meta_of (record { items = 0; submissions = 0 }) 0)
 
   -- a step that moves the tables of schema 1
-  pub record MovesAll {X : Type 0} (old new : Transaction S) (result : Result X TableFault)
+  pub record MovesAll {X : Type 0} (old new : S) (result : Result X TableFault)
       : Type 0 where
     pub works : CarriesInside old new result move_statements
     pub never : IfErr result IsNotNewerSchema
-    pub shows : Moves store old.conn.now new.conn.now result
+    pub shows : Moves batch.state old new result
 
   -- the making of a whole registry
-  pub record FillsRegistry {X : Type 0} (old new : Transaction S) (result : Result X TableFault)
+  pub record FillsRegistry {X : Type 0} (old new : S) (result : Result X TableFault)
       : Type 0 where
     pub works : CarriesInside old new result registry_statements
-    pub filled : MakesRegistry old.conn.now new.conn.now result
-    pub never : HasCleanDisk store new.conn.now → IsTrue old.conn.now.in_transaction
+    pub filled : MakesRegistry batch.state old new result
+    pub never : HasCleanDisk batch.state new → IsTrue (batch.state old).in_transaction
         → IfErr result IsNotNewerSchema
-    pub refused : HasCleanDisk store new.conn.now → IsTrue old.conn.now.in_transaction
-        → (IsTrue (is_open store old.conn.now) → IsNameTaken (state store old.conn.now))
+    pub refused : HasCleanDisk batch.state new → IsTrue (batch.state old).in_transaction
+        → (IsTrue (is_open batch.state old) → IsNameTaken (batch.state old))
         → MatchResult result (λ _. ⊥) IsNotNewerSchema

@@ -2,13 +2,13 @@
 use Rattle.std.specs.Prelude.{◌≡◌, ℕ, [], ◌∷◌}
 use Rattle.pid_moderation.specs.Items.{Items, name_at}
 use Rattle.pid_moderation.specs.Views.{Views}
-use Rattle.pid_tables.specs.Rows.Writes.{with_name}
+use Rattle.pid_tables.specs.Rows.Steps.Writes.{with_name}
 use Rattle.sqlite.specs.State.{State, HasCleanDisk}
 use Rattle.pid_reader.specs.LookingBack.{Item}
-use Rattle.pid_tables.specs.Rows.Leaves.{KeepsCommitted, Within, Written}
+use Rattle.pid_tables.specs.Rows.Steps.Within.{KeepsCommitted, Within, Written}
 use Rattle.pid_tables.specs.Rows.Shows.{Counts}
 use Rattle.pid_tables.specs.declared.putting.Put.{Put}
-use Rattle.pid_tables.specs.Puts.{put_over}
+use Rattle.pid_tables.specs.Steps.Puts.{put_over}
 
 -- the pairs, put in turn with this number, of which the last is the first here
 abbrev pub put_in_turn : ℕ → Items → Views → Views

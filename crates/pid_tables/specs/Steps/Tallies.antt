@@ -1,7 +1,7 @@
 -- What the paths of a file were to the items, counted while they are put in turn.
 use Rattle.std.specs.Prelude.{[], ◌∷◌, ◌+◌}
 use Rattle.pid_moderation.specs.Items.{Items, name_at, imported}
-use Rattle.pid_tables.specs.Puts.{put_over}
+use Rattle.pid_tables.specs.Steps.Puts.{put_over}
 use Rattle.pid_tables.specs.declared.tally.Tally.{Tally}
 use Rattle.pid_tables.specs.declared.putting.Put.{Put}
 use Rattle.pid_tables.specs.declared.putting.Put.TheVariants.{Added, Renamed, Same}

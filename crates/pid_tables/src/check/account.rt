@@ -8,10 +8,11 @@ ghost use Rattle.pid_tables.specs.declared.check.schema.Table.TheVariants as tab
 use crate::check::read::{RowFold, fold_rows};
 use crate::check::schema::Table;
 use crate::check::value::{is_number_at, is_within, text_at};
+use crate::database::Database;
 use crate::rows::TableFault;
 use crate::tables::Tables;
 use pid_ident::is_account;
-use sqlite::{Alter, Row};
+use sqlite::Row;
 use std::alloc::Global;
 use std::collections::BTreeSet;
 
@@ -59,11 +60,11 @@ impl RowFold for Accounts {
 }
 
 /// Reads the accounts, and judges whether they are those of a registry.
-pub(crate) fn read_accounts<S: Alter + Drop>(
-    tables: &mut Tables<S>,
+pub(crate) fn read_accounts<C: Database + Drop>(
+    tables: &mut Tables<C>,
     alloc: Global,
 ) -> Result<Accounts, TableFault>
-    ensures { KeepsTable S.Store tables.old.conn tables.new.conn result table.Account
+    ensures { KeepsTable C.state tables.old.conn tables.new.conn result table.Account
         KeepsAccounts }
 {
     let mut accounts = Accounts {

@@ -16,18 +16,18 @@ use crate::check::lacking::check_lacking;
 use crate::check::meta::{Labels, are_labels, read_labels, revision_told};
 use crate::check::schema::{SIX, has_some_table, some_can, tables_of};
 use crate::check::tables::read_tables;
+use crate::database::Database;
 use crate::rows::{TableFault, Version};
 use crate::tables::Tables;
-use sqlite::Alter;
 use std::alloc::Global;
 
-fn check_rows<S: Alter + Drop>(
-    tables: &mut Tables<S>,
+fn check_rows<C: Database + Drop>(
+    tables: &mut Tables<C>,
     alloc: Global,
     version: Version,
     labels: Labels,
 ) -> Result<(), TableFault>
-    ensures { JudgesRows S.Store tables.old.conn tables.new.conn result
+    ensures { JudgesRows C.state tables.old.conn tables.new.conn result
         (λ d. HasTables version d.schema × ShowsLabels d labels)
         (λ d x. ShowsRegistry version d) (TellsDamage version) }
 {
@@ -43,15 +43,15 @@ fn check_rows<S: Alter + Drop>(
 }
 
 // The schema of the tables, where each of the six is there.
-fn check_tables<S: Alter + Drop>(
-    tables: &mut Tables<S>,
+fn check_tables<C: Database + Drop>(
+    tables: &mut Tables<C>,
     alloc: Global,
 ) -> Result<Option<Version>, TableFault>
-    ensures rests { OnlyReads S.Store tables.old.conn tables.new.conn }
-    ensures told { HasCleanDisk S.Store tables.new.conn
-        → HasEachTable (seen S.Store tables.old.conn).schema
-        → MatchResult result (FindsVersion (seen S.Store tables.old.conn))
-        (Explains (seen S.Store tables.old.conn)) }
+    ensures rests { OnlyReads C.state tables.old.conn tables.new.conn }
+    ensures told { HasCleanDisk C.state tables.new.conn
+        → HasEachTable (seen C.state tables.old.conn).schema
+        → MatchResult result (FindsVersion (seen C.state tables.old.conn))
+        (Explains (seen C.state tables.old.conn)) }
 {
     let found = tables_of(tables)?;
     let labels = read_labels(tables)?;
@@ -65,7 +65,7 @@ fn check_tables<S: Alter + Drop>(
     Ok(found)
 }
 
-impl<S: Alter + Drop> Tables<S> {
+impl<C: Database + Drop> Tables<C> {
     /// The schema of the tables, if they are those of some registry; `None` if there is no table:
     /// every row is read and judged. `docs/STORAGE.md` has the conditions.
     ///
@@ -79,19 +79,19 @@ impl<S: Alter + Drop> Tables<S> {
     /// answers `Memory` and `Store` otherwise, and changes nothing. Other tables, indexes and views
     /// are allowed.
     pub fn check(&mut self, alloc: Global) -> Result<Option<Version>, TableFault>
-        ensures rests { OnlyReads S.Store self.old.conn self.new.conn }
-        ensures shut { HasCleanDisk S.Store self.new.conn → is_open S.Store self.old.conn ≡ false
+        ensures rests { OnlyReads C.state self.old.conn self.new.conn }
+        ensures shut { HasCleanDisk C.state self.new.conn → is_open C.state self.old.conn ≡ false
             → MatchResult result (λ x. ⊥) IsMemoryOrStore }
         // Whatever the schema: what it answers is so of the rows that the queries of the tables
         // answer, and by `judgements_hold_of_storage` of those that storage has.
-        ensures told { HasCleanDisk S.Store self.new.conn
-            → MatchResult result (FindsVersion (seen S.Store self.old.conn))
-            (Explains (seen S.Store self.old.conn)) }
+        ensures told { HasCleanDisk C.state self.new.conn
+            → MatchResult result (FindsVersion (seen C.state self.old.conn))
+            (Explains (seen C.state self.old.conn)) }
         // Tables that show a sound history, whose revision is within its limit, are neither damaged
         // nor of a later schema.
-        ensures good { HasCleanDisk S.Store self.new.conn → (h : History) → IsSound h
+        ensures good { HasCleanDisk C.state self.new.conn → (h : History) → IsSound h
             → revision_of h ≤ most_revision → (schema : Version)
-            → RestsIn S.Store schema self.old.conn (views_of h)
+            → RestsIn C.state schema self.old.conn (views_of h)
             → MatchResult result (λ found. found ≡ Some schema) IsMemoryOrStore }
     {
         crate::check::laws::sound_histories_are_registries(); // proof only

@@ -32,11 +32,12 @@ ghost use Rattle.pid_tables.specs.Rows.Faults.{IsMemoryOrStore};
 use crate::check::read::{RowFold, checked_next, fold_rows};
 use crate::check::schema::Table;
 use crate::check::words::{has_name, path_at};
+use crate::database::Database;
 use crate::rows::TableFault;
 use crate::tables::Tables;
 use pid_ident::Path;
 use pid_moderation::ITEMS;
-use sqlite::{Alter, Row};
+use sqlite::Row;
 use std::alloc::Global;
 use std::collections::BTreeSet;
 
@@ -114,11 +115,11 @@ impl RowFold for Items {
 }
 
 /// Reads the items, and judges whether they are those of a registry.
-pub(crate) fn read_items<S: Alter + Drop>(
-    tables: &mut Tables<S>,
+pub(crate) fn read_items<C: Database + Drop>(
+    tables: &mut Tables<C>,
     alloc: Global,
 ) -> Result<Items, TableFault>
-    ensures { KeepsTable S.Store tables.old.conn tables.new.conn result table.Item
+    ensures { KeepsTable C.state tables.old.conn tables.new.conn result table.Item
         KeepsItems }
 {
     let mut items = Items {

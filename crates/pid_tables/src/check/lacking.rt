@@ -5,17 +5,17 @@ ghost use Rattle.pid_tables.specs.Check.Steps.Lacking.{ExplainsLater};
 
 use crate::check::meta::read_labels;
 use crate::check::schema::{Table, can_ask, query};
+use crate::database::Database;
 use crate::rows::{TableFault, Version};
 use crate::tables::Tables;
-use sqlite::Alter;
 
 /// Why it is no registry's: it never answers `Ok`.
-pub(crate) fn check_lacking<S: Alter + Drop>(
-    tables: &mut Tables<S>,
+pub(crate) fn check_lacking<C: Database + Drop>(
+    tables: &mut Tables<C>,
 ) -> Result<Option<Version>, TableFault>
-    ensures rests { OnlyReads S.Store tables.old.conn tables.new.conn }
-    ensures told { HasCleanDisk S.Store tables.new.conn
-        → MatchResult result (λ x. ⊥) (ExplainsLater (seen S.Store tables.old.conn)) }
+    ensures rests { OnlyReads C.state tables.old.conn tables.new.conn }
+    ensures told { HasCleanDisk C.state tables.new.conn
+        → MatchResult result (λ x. ⊥) (ExplainsLater (seen C.state tables.old.conn)) }
 {
     if !can_ask(tables, query(Table::Meta))? {
         return Err(TableFault::Damaged);

@@ -32,10 +32,11 @@ ghost use Rattle.pid_tables.specs.declared.check.schema.Table.TheVariants as tab
 use crate::check::read::{RowFold, fold_rows};
 use crate::check::schema::Table;
 use crate::check::value::{is_text_at, number_at};
+use crate::database::Database;
 use crate::rows::{LATEST, TableFault, Version};
 use crate::tables::Tables;
 use pid_moderation::REVISIONS;
-use sqlite::{Alter, Row};
+use sqlite::Row;
 
 // The number under a label.
 fn labelled(row: &Row, label: &str) -> Option<u64>
@@ -163,8 +164,8 @@ impl RowFold for Labels {
 }
 
 /// Reads the labels.
-pub(crate) fn read_labels<S: Alter + Drop>(tables: &mut Tables<S>) -> Result<Labels, TableFault>
-    ensures { KeepsTable S.Store tables.old.conn tables.new.conn result table.Meta
+pub(crate) fn read_labels<C: Database + Drop>(tables: &mut Tables<C>) -> Result<Labels, TableFault>
+    ensures { KeepsTable C.state tables.old.conn tables.new.conn result table.Meta
         TakesLabels }
 {
     let mut labels = Labels {

@@ -4,13 +4,14 @@ ghost use Rattle.sqlite.specs.Order.{Row as Values};
 ghost use Rattle.pid_tables.specs.Rows.Faults.{IsMemoryOrStore};
 ghost use Rattle.pid_tables.specs.Check.Steps.Clauses.{KeepsTable};
 
-use crate::check::schema::{Table, query};
+use crate::check::schema::Table;
+use crate::database::Database;
 use crate::rows::TableFault;
 use crate::tables::Tables;
-use sqlite::{Alter, Row};
+use sqlite::Row;
 
 /// Keeps of rows what judging them needs.
-pub(crate) trait RowFold {
+pub trait RowFold {
     ghost use Rattle.std.specs.Prelude.{List};
     ghost use Rattle.sqlite.specs.Order.{Row as Values};
 
@@ -24,26 +25,17 @@ pub(crate) trait RowFold {
         ensures only_store { IfErr result IsMemoryOrStore };
 }
 
-/// Hands each row of a table to a keeper, in some order: no list of them is made.
-pub(crate) fn fold_rows<S: Alter + Drop, K: RowFold>(
-    tables: &mut Tables<S>,
+/// Hands each row of a table to a keeper, as `Database::fold_rows` does.
+pub(crate) fn fold_rows<C: Database + Drop, K: RowFold>(
+    tables: &mut Tables<C>,
     table: Table,
     keeper: &mut K,
 ) -> Result<(), TableFault>
-    ensures { KeepsTable S.Store tables.old.conn tables.new.conn result table
+    ensures { KeepsTable C.state tables.old.conn tables.new.conn result table
         (λ rows x. K.keeps keeper.old [] keeper.old
         → K.keeps keeper.old rows keeper.new) }
 {
-    let sql = query(table);
-    let mut rows = tables.conn.query(sql, &[])?;
-    'rows: for _ in 0..usize::MAX {
-        let Some(row) = rows.next()? else {
-            return Ok(());
-        };
-        keeper.keep(row)?;
-    }
-    // More rows than can be counted.
-    Err(TableFault::Memory)
+    tables.conn.fold_rows(table, keeper)
 }
 
 /// The count of rows with one more.

@@ -19,11 +19,12 @@ use crate::check::authors::{Authors, is_by};
 use crate::check::read::{RowFold, fold_rows};
 use crate::check::schema::Table;
 use crate::check::value::{is_number_at, number_at, text_at};
+use crate::database::Database;
 use crate::rows::TableFault;
 use crate::tables::Tables;
 use pid_ident::{is_account, is_key};
 use pid_moderation::ITEMS;
-use sqlite::{Alter, Row};
+use sqlite::Row;
 
 fn sums_within_limit(added: u64, renamed: u64, same: u64) -> bool
     ensures { IsTrue result ↔ (added + renamed + same ≤ 100000) }
@@ -134,11 +135,11 @@ impl RowFold for ReceiptFold<'_> {
 
 /// Reads the receipts, and judges whether they are those of a registry whose submissions have these
 /// authors.
-pub(crate) fn read_receipts<S: Alter + Drop>(
-    tables: &mut Tables<S>,
+pub(crate) fn read_receipts<C: Database + Drop>(
+    tables: &mut Tables<C>,
     authors: &Authors,
 ) -> Result<bool, TableFault>
-    ensures { KeepsTable S.Store tables.old.conn tables.new.conn result table.Receipt
+    ensures { KeepsTable C.state tables.old.conn tables.new.conn result table.Receipt
         (AreOfAuthors authors.now) }
 {
     let mut keeper = ReceiptFold {

@@ -16,10 +16,11 @@ use crate::check::read::{RowFold, fold_rows};
 use crate::check::schema::Table;
 use crate::check::value::{has_number, has_words, number_at};
 use crate::check::words::has_filled_text;
+use crate::database::Database;
 use crate::rows::TableFault;
 use crate::tables::Tables;
 use pid_moderation::REMARKS;
-use sqlite::{Alter, Row};
+use sqlite::Row;
 use std::alloc::Global;
 use std::collections::BTreeSet;
 
@@ -102,11 +103,11 @@ impl RowFold for RemarkFold {
 }
 
 /// Reads the remarks, and judges whether they are those of a registry.
-pub(crate) fn read_remarks<S: Alter + Drop>(
-    tables: &mut Tables<S>,
+pub(crate) fn read_remarks<C: Database + Drop>(
+    tables: &mut Tables<C>,
     alloc: Global,
 ) -> Result<bool, TableFault>
-    ensures { KeepsTable S.Store tables.old.conn tables.new.conn result table.Remark
+    ensures { KeepsTable C.state tables.old.conn tables.new.conn result table.Remark
         (IsPartJudged AreRemarks) }
 {
     let mut keeper = RemarkFold {

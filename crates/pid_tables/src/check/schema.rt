@@ -33,12 +33,13 @@ ghost use Rattle.pid_tables.specs.Rows.Clauses.{
   is_open,
 };
 
+use crate::database::Database;
 use crate::rows::{TableFault, Version};
 use crate::tables::Tables;
-use sqlite::{Alter, Error};
+use sqlite::Error;
 
 // No text is refused as damage but one that is not understood.
-fn unasked(error: Error) -> Result<bool, TableFault>
+pub(crate) fn unasked(error: Error) -> Result<bool, TableFault>
     ensures refused { IfOk result (λ asked. (asked ≡ false) × (fault_of_sql error ≡ Damaged)) }
     ensures only_store { IfErr result IsMemoryOrStore }
     ensures told { IfErr result (λ fault. fault ≡ fault_of_sql error) }
@@ -49,28 +50,25 @@ fn unasked(error: Error) -> Result<bool, TableFault>
     }
 }
 
-/// Whether a query can be asked: whether its text is understood.
-pub(crate) fn can_ask<S: Alter + Drop>(
-    tables: &mut Tables<S>,
+/// Whether a query can be asked, as `Database::can_ask` answers it.
+pub(crate) fn can_ask<C: Database + Drop>(
+    tables: &mut Tables<C>,
     sql: &str,
 ) -> Result<bool, TableFault>
-    ensures asks { Asks S.Store tables.old.conn tables.new.conn result
+    ensures asks { Asks C.state tables.old.conn tables.new.conn result
         (λ d asked. IsTrue asked ↔ CanBeAsked d.schema sql.now) }
-    ensures was_open { HasCleanDisk S.Store tables.new.conn
-        → OnOk result (IsTrue (is_open S.Store tables.old.conn)) }
-    ensures caused { HasCleanDisk S.Store tables.new.conn → (v : Views)
-        → AtRest S.Store tables.old.conn v → IsQuery pid_schema sql.now []
-        → IfErr result (IsCaused S.Store tables.old.conn tables.new.conn) }
+    ensures was_open { HasCleanDisk C.state tables.new.conn
+        → OnOk result (IsTrue (is_open C.state tables.old.conn)) }
+    ensures caused { HasCleanDisk C.state tables.new.conn → (v : Views)
+        → AtRest C.state tables.old.conn v → IsQuery pid_schema sql.now []
+        → IfErr result (IsCaused C.state tables.old.conn tables.new.conn) }
 {
-    match tables.conn.prepare(sql).err() {
-        None => Ok(true),
-        Some(error) => unasked(error),
-    }
+    tables.conn.can_ask(sql)
 }
 
 /// The tables of the schemas; the last is in schema 2 alone.
 #[derive(Clone, Copy)]
-pub(crate) enum Table {
+pub enum Table {
     Meta,
     Account,
     Item,
@@ -121,18 +119,18 @@ pub(crate) fn query(table: Table) -> &'static str
 }
 
 /// Whether the query of one of the tables can be asked; or, if `can` is false, cannot be.
-pub(crate) fn some_can<S: Alter + Drop>(
-    tables: &mut Tables<S>,
+pub(crate) fn some_can<C: Database + Drop>(
+    tables: &mut Tables<C>,
     listed: &[Table],
     can: bool,
 ) -> Result<bool, TableFault>
-    ensures asks { Asks S.Store tables.old.conn tables.new.conn result (λ d some. IsTrue some
+    ensures asks { Asks C.state tables.old.conn tables.new.conn result (λ d some. IsTrue some
         ↔ Any (λ t. IsTrue can ↔ CanBeAsked d.schema (query_of t)) listed.now) }
-    ensures was_open { HasCleanDisk S.Store tables.new.conn → 0 < length listed.now
-        → OnOk result (IsTrue (is_open S.Store tables.old.conn)) }
-    ensures caused { HasCleanDisk S.Store tables.new.conn → (v : Views)
-        → AtRest S.Store tables.old.conn v
-        → IfErr result (IsCaused S.Store tables.old.conn tables.new.conn) }
+    ensures was_open { HasCleanDisk C.state tables.new.conn → 0 < length listed.now
+        → OnOk result (IsTrue (is_open C.state tables.old.conn)) }
+    ensures caused { HasCleanDisk C.state tables.new.conn → (v : Views)
+        → AtRest C.state tables.old.conn v
+        → IfErr result (IsCaused C.state tables.old.conn tables.new.conn) }
 {
     for table in listed {
         if can_ask(tables, query(*table))? == can {
@@ -144,18 +142,18 @@ pub(crate) fn some_can<S: Alter + Drop>(
 
 /// Whether some of the seven tables is there: whether a query of its columns by their names can be
 /// prepared. Nothing is said of its rows.
-pub fn has_some_table<S: Alter + Drop>(tables: &mut Tables<S>) -> Result<bool, TableFault>
-    ensures reads { Reads S.Store tables.old.conn tables.new.conn result (λ v some. some ≡ true) }
-    ensures found { AsksTables S.Store tables.old.conn tables.new.conn result }
+pub fn has_some_table<C: Database + Drop>(tables: &mut Tables<C>) -> Result<bool, TableFault>
+    ensures reads { Reads C.state tables.old.conn tables.new.conn result (λ v some. some ≡ true) }
+    ensures found { AsksTables C.state tables.old.conn tables.new.conn result }
 {
     some_can(tables, &SEVEN, true)
 }
 
 /// Of which schema the tables are, if each of the six is there.
-pub(crate) fn tables_of<S: Alter + Drop>(
-    tables: &mut Tables<S>,
+pub(crate) fn tables_of<C: Database + Drop>(
+    tables: &mut Tables<C>,
 ) -> Result<Option<Version>, TableFault>
-    ensures { Asks S.Store tables.old.conn tables.new.conn result
+    ensures { Asks C.state tables.old.conn tables.new.conn result
         (λ d found. HasEachTable d.schema → HasTablesOf found d.schema) }
 {
     if !can_ask(tables, ANY_SINCE)? {

@@ -10,10 +10,11 @@ use crate::check::item::add_path;
 use crate::check::read::{RowFold, fold_rows};
 use crate::check::schema::Table;
 use crate::check::value::is_within;
+use crate::database::Database;
 use crate::rows::TableFault;
 use crate::tables::Tables;
 use pid_ident::Path;
-use sqlite::{Alter, Row};
+use sqlite::Row;
 use std::alloc::Global;
 use std::collections::BTreeSet;
 
@@ -52,13 +53,13 @@ impl RowFold for SinceFold {
 
 /// Reads the numbers of changes, and judges whether they go with the paths of the items and the
 /// revision.
-pub(crate) fn read_sinces<S: Alter + Drop>(
-    tables: &mut Tables<S>,
+pub(crate) fn read_sinces<C: Database + Drop>(
+    tables: &mut Tables<C>,
     items: &BTreeSet<Path>,
     revision: u64,
     alloc: Global,
 ) -> Result<bool, TableFault>
-    ensures { KeepsTable S.Store tables.old.conn tables.new.conn result table.Since
+    ensures { KeepsTable C.state tables.old.conn tables.new.conn result table.Since
         (GoWith items.now revision) }
 {
     let mut keeper = SinceFold {

@@ -31,9 +31,10 @@ use crate::check::read::{RowFold, checked_next, fold_rows};
 use crate::check::schema::Table;
 use crate::check::value::{is_text_at, number_at, text_at};
 use crate::check::words::{has_filled_text, has_name, has_path, has_text};
+use crate::database::Database;
 use crate::rows::TableFault;
 use crate::tables::Tables;
-use sqlite::{Alter, Row};
+use sqlite::Row;
 use std::alloc::Global;
 use std::collections::BTreeSet;
 
@@ -163,12 +164,12 @@ pub(crate) struct Submissions {
 
 /// Reads the submissions, and judges whether they are those of a registry with accounts of these
 /// names.
-pub(crate) fn read_submissions<S: Alter + Drop>(
-    tables: &mut Tables<S>,
+pub(crate) fn read_submissions<C: Database + Drop>(
+    tables: &mut Tables<C>,
     names: &BTreeSet<String>,
     alloc: Global,
 ) -> Result<Submissions, TableFault>
-    ensures { KeepsTable S.Store tables.old.conn tables.new.conn result table.Submission
+    ensures { KeepsTable C.state tables.old.conn tables.new.conn result table.Submission
         (KeepsSubmissions names.now) }
 {
     let mut keeper = SubmissionFold {

@@ -11,9 +11,9 @@ use crate::check::receipt::read_receipts;
 use crate::check::remark::read_remarks;
 use crate::check::since::read_sinces;
 use crate::check::submission::read_submissions;
+use crate::database::Database;
 use crate::rows::{TableFault, Version};
 use crate::tables::Tables;
-use sqlite::Alter;
 use std::alloc::Global;
 
 /// What is kept of some tables: whether all their rows are good, and how many the first of them
@@ -33,13 +33,13 @@ pub(crate) struct Judged {
 }
 
 // The items, and in schema 2 their numbers.
-fn read_named<S: Alter + Drop>(
-    tables: &mut Tables<S>,
+fn read_named<C: Database + Drop>(
+    tables: &mut Tables<C>,
     alloc: Global,
     version: Version,
     revision: u64,
 ) -> Result<Part, TableFault>
-    ensures { JudgesRows S.Store tables.old.conn tables.new.conn result
+    ensures { JudgesRows C.state tables.old.conn tables.new.conn result
         (λ d. HasTables version d.schema) (ShowsNamed version revision) (λ d. IsMemoryOrStore) }
 {
     let items = read_items(tables, alloc)?;
@@ -60,11 +60,11 @@ fn read_named<S: Alter + Drop>(
 }
 
 // The submissions, with the accounts and the receipts.
-fn read_submitted<S: Alter + Drop>(
-    tables: &mut Tables<S>,
+fn read_submitted<C: Database + Drop>(
+    tables: &mut Tables<C>,
     alloc: Global,
 ) -> Result<Part, TableFault>
-    ensures { JudgesRows S.Store tables.old.conn tables.new.conn result
+    ensures { JudgesRows C.state tables.old.conn tables.new.conn result
         (λ d. HasEachTable d.schema) ShowsSubmitted (λ d. IsMemoryOrStore) }
 {
     let accounts = read_accounts(tables, alloc)?;
@@ -84,13 +84,13 @@ fn read_submitted<S: Alter + Drop>(
 }
 
 /// Reads and judges the tables of a schema other than `meta`, which has this revision.
-pub(crate) fn read_tables<S: Alter + Drop>(
-    tables: &mut Tables<S>,
+pub(crate) fn read_tables<C: Database + Drop>(
+    tables: &mut Tables<C>,
     alloc: Global,
     version: Version,
     revision: u64,
 ) -> Result<Judged, TableFault>
-    ensures { JudgesRows S.Store tables.old.conn tables.new.conn result
+    ensures { JudgesRows C.state tables.old.conn tables.new.conn result
         (λ d. HasTables version d.schema) (ShowsJudged version revision) (λ d. IsMemoryOrStore) }
 {
     let submitted = read_submitted(tables, alloc)?;

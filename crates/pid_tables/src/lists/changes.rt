@@ -27,6 +27,7 @@ ghost use Rattle.pid_tables.specs.Lists.Steps.ChangeRows.{
   held as held_number,
 };
 
+use crate::database::Database;
 use crate::lists::adding::push_last;
 use crate::lists::paths::text_or_empty;
 use crate::rows::TableFault;
@@ -35,8 +36,8 @@ use crate::rows::value::{path_at, whole_at};
 use crate::tables::Tables;
 use pid_ident::Path;
 use pid_moderation::{ChangedItem, Changes, PAGE};
+use sqlite::Row;
 use sqlite::types::{ToSql, ValueRef};
-use sqlite::{Alter, Row};
 use std::alloc::Global;
 
 // A number as a query asks for it: for one that SQLite does not hold, the greatest that it holds.
@@ -49,7 +50,7 @@ fn clamp_to_i64<'a>(whole: u64) -> ValueRef<'a>
     }
 }
 
-impl<S: Alter + Drop> Tables<S> {
+impl<C: Database + Drop> Tables<C> {
     // Adds the item of a row, which has its path and the number of its last change.
     fn add_changed(
         &mut self,
@@ -57,7 +58,7 @@ impl<S: Alter + Drop> Tables<S> {
         alloc: Global,
         row: &Row,
     ) -> Result<(), TableFault>
-        ensures { ReadsOf S.Store self.old.conn self.new.conn result
+        ensures { ReadsOf C.state self.old.conn self.new.conn result
             (λ v item. IsChangeIn v item row.now)
             (λ item _. Adds changed_of items.old.items items.new.items (item ∷ [])) }
     {
@@ -71,7 +72,7 @@ impl<S: Alter + Drop> Tables<S> {
 
     // The items of rows, in their order.
     fn changed_items(&mut self, alloc: Global, rows: &[Row]) -> Result<Vec<ChangedItem>, TableFault>
-        ensures { ReadsOf S.Store self.old.conn self.new.conn result
+        ensures { ReadsOf C.state self.old.conn self.new.conn result
             (λ v (all : List Changed). AreChangesIn v all rows.now)
             (λ all items. map changed_of items.items ≡ all) }
     {
@@ -95,7 +96,7 @@ impl<S: Alter + Drop> Tables<S> {
         since: u64,
         after: Option<&Path>,
     ) -> Result<Changes, TableFault>
-        ensures { Reads S.Store self.old.conn self.new.conn result
+        ensures { Reads C.state self.old.conn self.new.conn result
             (λ v changes. AreHeld v → told_page changes
             ≡ changes_in PAGE since (start_text (option_copied after.entry)) v) }
     {

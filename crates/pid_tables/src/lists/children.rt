@@ -26,6 +26,7 @@ ghost use Rattle.pid_tables.specs.Lists.Steps.Children.{children_among, under};
 ghost use Rattle.pid_tables.specs.Lists.Children.{AreChildren};
 ghost use Rattle.pid_tables.specs.Rows.Clauses.{Reads};
 
+use crate::database::Database;
 use crate::lists::adding::push_last;
 use crate::lists::walk::EachEnd;
 use crate::rows::TableFault;
@@ -35,8 +36,8 @@ use crate::tables::Tables;
 use pid_ident::{Name, Path, PathText, hex4};
 use pid_moderation::Item;
 use pid_reader::{Entry, Sink};
+use sqlite::Row;
 use sqlite::types::ValueRef;
-use sqlite::{Alter, Row};
 use std::alloc::Global;
 
 fn is_child(item: Path, path: Path) -> bool
@@ -80,15 +81,15 @@ fn add_children(
 
 // Keeps the items that are directly below the path, of those whose paths go on after the text of
 // the two parts and a slash.
-fn add_under<S: Alter + Drop>(
+fn add_under<C: Database + Drop>(
     kept: &mut Vec<Item>,
-    tables: &mut Tables<S>,
+    tables: &mut Tables<C>,
     alloc: Global,
     front: &[u8],
     rest: &[u8],
     path: Path,
 ) -> Result<(), TableFault>
-    ensures { Reads S.Store tables.old.conn tables.new.conn result (λ v _. AreViews v
+    ensures { Reads C.state tables.old.conn tables.new.conn result (λ v _. AreViews v
         × Adds pair_of kept.old.items kept.new.items
         (children_among path (under (front.now ++ rest.now) v.items))) }
 {
@@ -136,9 +137,9 @@ impl Sink for Tops {
     }
 }
 
-impl<S: Alter + Drop> Tables<S> {
+impl<C: Database + Drop> Tables<C> {
     fn at_the_top(&mut self, alloc: Global) -> Result<Vec<Item>, TableFault>
-        ensures { Reads S.Store self.old.conn self.new.conn result
+        ensures { Reads C.state self.old.conn self.new.conn result
             (λ v items. map pair_of items.items ≡ children_of None v.items) }
     {
         let mut tops = Tops {
@@ -161,7 +162,7 @@ impl<S: Alter + Drop> Tables<S> {
     /// Vendors and classes have no range of their own, so all items are walked over. It holds of
     /// views whose paths are paths, as those of every history are.
     pub fn children(&mut self, alloc: Global, above: Option<Path>) -> Result<Vec<Item>, TableFault>
-        ensures { Reads S.Store self.old.conn self.new.conn result
+        ensures { Reads C.state self.old.conn self.new.conn result
             (λ v items. AreChildren (option_map path_text above) v items.items) }
     {
         let Some(path) = above else {

@@ -23,6 +23,7 @@ ghost use Rattle.pid_tables.specs.Lists.Steps.PendingRows.{
 };
 ghost use Rattle.pid_tables.specs.Rows.Clauses.{Reads};
 
+use crate::database::Database;
 use crate::lists::adding::push_last;
 use crate::rows::TableFault;
 use crate::rows::run::read_rows;
@@ -30,8 +31,8 @@ use crate::rows::submission::{standing, submission_of};
 use crate::rows::value::number_at;
 use crate::tables::Tables;
 use pid_moderation::{PAGE, Pending};
+use sqlite::Row;
 use sqlite::types::ToSql;
-use sqlite::{Alter, Row};
 use std::alloc::Global;
 
 fn add_pending(page: &mut Vec<Pending>, row: &Row, alloc: Global) -> Result<(), TableFault>
@@ -58,13 +59,13 @@ fn page_of(rows: &[Row], alloc: Global) -> Result<Vec<Pending>, TableFault>
 }
 
 // Adds the submission with a number, as a pending one; nothing if there is none.
-fn add_numbered<S: Alter + Drop>(
+fn add_numbered<C: Database + Drop>(
     page: &mut Vec<Pending>,
-    tables: &mut Tables<S>,
+    tables: &mut Tables<C>,
     alloc: Global,
     number: u32,
 ) -> Result<(), TableFault>
-    ensures { Reads S.Store tables.old.conn tables.new.conn result
+    ensures { Reads C.state tables.old.conn tables.new.conn result
         (λ v _. Adds told_of page.old.items page.new.items (standings_at (number ∷ []) v)) }
 {
     match standing(tables, alloc, number)? {
@@ -73,12 +74,12 @@ fn add_numbered<S: Alter + Drop>(
     }
 }
 
-impl<S: Alter + Drop> Tables<S> {
+impl<C: Database + Drop> Tables<C> {
     /// The first pending submissions whose numbers are above a number, `PAGE` at most. From 0 on,
     /// and then from the last number that was listed, pages go through all that are pending.
     /// Decided ones are passed over, row by row.
     pub fn pending_page(&mut self, alloc: Global, after: u32) -> Result<Vec<Pending>, TableFault>
-        ensures { Reads S.Store self.old.conn self.new.conn result
+        ensures { Reads C.state self.old.conn self.new.conn result
             (λ v page. map told_of page.items ≡ pending_in PAGE after v) }
     {
         let after = after.to_sql();
@@ -95,7 +96,7 @@ impl<S: Alter + Drop> Tables<S> {
     /// are pending: one that was decided is listed too. A number that no submission has is passed over.
     /// Each is read by its key.
     pub fn pending_at(&mut self, alloc: Global, numbers: &[u32]) -> Result<Vec<Pending>, TableFault>
-        ensures { Reads S.Store self.old.conn self.new.conn result
+        ensures { Reads C.state self.old.conn self.new.conn result
             (λ v page. map told_of page.items ≡ standings_at numbers.now v) }
     {
         let mut page = Vec::new(alloc);

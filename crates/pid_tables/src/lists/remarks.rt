@@ -23,6 +23,7 @@ ghost use Rattle.pid_tables.specs.Rows.Clauses.{Reads};
 ghost use Rattle.pid_tables.specs.Lists.Steps.Adding.{Adds};
 ghost use Rattle.pid_tables.specs.Lists.Steps.RemarkRows.{IsReadablePlaced, placed_row};
 
+use crate::database::Database;
 use crate::lists::adding::push_last;
 use crate::rows::TableFault;
 use crate::rows::remark::{comment_of, remark_count};
@@ -31,8 +32,8 @@ use crate::rows::submission::standing;
 use crate::rows::value::number_at;
 use crate::tables::Tables;
 use pid_moderation::{PAGE, PlacedRemark, RemarkPage};
+use sqlite::Row;
 use sqlite::types::ToSql;
-use sqlite::{Alter, Row};
 use std::alloc::Global;
 
 fn add_remark(page: &mut Vec<PlacedRemark>, row: &Row, alloc: Global) -> Result<(), TableFault>
@@ -59,13 +60,13 @@ fn remarks_of(rows: &[Row], alloc: Global) -> Result<Vec<PlacedRemark>, TableFau
 
 // The first remarks after a place, `PAGE` at most, in their order. They are read by their key, from
 // the first one on.
-fn remarks_after<S: Alter + Drop>(
-    tables: &mut Tables<S>,
+fn remarks_after<C: Database + Drop>(
+    tables: &mut Tables<C>,
     alloc: Global,
     number: u32,
     after: u32,
 ) -> Result<Vec<PlacedRemark>, TableFault>
-    ensures { Reads S.Store tables.old.conn tables.new.conn result
+    ensures { Reads C.state tables.old.conn tables.new.conn result
         (λ v page. map placed_of page.items ≡ take PAGE (placed_after after (v.remarks number))) }
 {
     let number = number.to_sql();
@@ -78,7 +79,7 @@ fn remarks_after<S: Alter + Drop>(
     remarks_of(rows.as_slice(), alloc)
 }
 
-impl<S: Alter + Drop> Tables<S> {
+impl<C: Database + Drop> Tables<C> {
     /// The submission with the number, as it stands, how many remarks there are on it, and the first
     /// of them after a place, `PAGE` at most, in their order. From 0 on, and then from the last
     /// place of a page, pages go through all of them. What comes before a page is not read.
@@ -88,7 +89,7 @@ impl<S: Alter + Drop> Tables<S> {
         number: u32,
         after: u32,
     ) -> Result<Option<RemarkPage>, TableFault>
-        ensures { Reads S.Store self.old.conn self.new.conn result
+        ensures { Reads C.state self.old.conn self.new.conn result
             (λ v page. option_map remark_page_of page ≡ remark_page_in PAGE number after v) }
     {
         let remarks = remarks_after(self, alloc, number, after)?;

@@ -9,6 +9,7 @@ ghost use Rattle.pid_tables.specs.Rows.Steps.Unread.{IsDamagedRow};
 ghost use Rattle.pid_tables.specs.Rows.Clauses.{Reads};
 ghost use Rattle.pid_tables.specs.Lists.Steps.Adding.{Adds};
 
+use crate::database::Database;
 use crate::lists::adding::push_last;
 use crate::rows::TableFault;
 use crate::rows::remark::comment_of;
@@ -16,8 +17,8 @@ use crate::rows::run::read_rows;
 use crate::rows::submission::standing;
 use crate::tables::Tables;
 use pid_moderation::{Comment, Discussion};
+use sqlite::Row;
 use sqlite::types::ToSql;
-use sqlite::{Alter, Row};
 use std::alloc::Global;
 
 fn add_comment(comments: &mut Vec<Comment>, row: &Row, alloc: Global) -> Result<(), TableFault>
@@ -41,12 +42,12 @@ fn comments_of(rows: &[Row], alloc: Global) -> Result<Vec<Comment>, TableFault>
     Ok(comments)
 }
 
-fn comments<S: Alter + Drop>(
-    tables: &mut Tables<S>,
+fn comments<C: Database + Drop>(
+    tables: &mut Tables<C>,
     alloc: Global,
     number: u32,
 ) -> Result<Vec<Comment>, TableFault>
-    ensures { Reads S.Store tables.old.conn tables.new.conn result
+    ensures { Reads C.state tables.old.conn tables.new.conn result
         (λ v comments. map remark_of comments.items ≡ v.remarks number) }
 {
     let number = number.to_sql();
@@ -58,14 +59,14 @@ fn comments<S: Alter + Drop>(
     comments_of(rows.as_slice(), alloc)
 }
 
-impl<S: Alter + Drop> Tables<S> {
+impl<C: Database + Drop> Tables<C> {
     /// The submission with the number, as it stands, and the remarks on it in their order.
     pub fn submission(
         &mut self,
         alloc: Global,
         number: u32,
     ) -> Result<Option<Discussion>, TableFault>
-        ensures { Reads S.Store self.old.conn self.new.conn result
+        ensures { Reads C.state self.old.conn self.new.conn result
             (λ v d. option_map discussion_of d ≡ discussion_in v number) }
     {
         let remarks = comments(self, alloc, number)?;

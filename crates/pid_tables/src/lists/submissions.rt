@@ -21,6 +21,7 @@ ghost use Rattle.pid_tables.specs.Lists.Steps.SubmissionRows.{
   numbers_among,
 };
 
+use crate::database::Database;
 use crate::lists::adding::push_last;
 use crate::lists::paths::text_or_empty;
 use crate::rows::TableFault;
@@ -31,20 +32,20 @@ use crate::rows::value::number_at;
 use crate::tables::Tables;
 use pid_ident::{Account, Path};
 use pid_moderation::{Listed, PAGE, SEARCHED, SubmissionPage};
+use sqlite::Row;
 use sqlite::types::ToSql;
-use sqlite::{Alter, Row};
 use std::alloc::Global;
 
 // The numbers above `low` and up to `last` of the submissions for a path and of an author, the
 // latest first, at most a page of them. The empty text stands for every path or author.
-fn number_rows<'x, S: Alter + Drop>(
-    tables: &mut Tables<S>,
+fn number_rows<'x, C: Database + Drop>(
+    tables: &mut Tables<C>,
     low: u32,
     last: u32,
     path: &'x str,
     author: &'x str,
 ) -> Result<Vec<Row>, TableFault>
-    ensures { Reads S.Store tables.old.conn tables.new.conn result
+    ensures { Reads C.state tables.old.conn tables.new.conn result
         (λ v rows. rows.items ≡ map value_row (numbers_among (latest_asked PAGE (record {
           low = low;
           last = last;
@@ -66,13 +67,13 @@ fn number_rows<'x, S: Alter + Drop>(
 
 // Adds the submission whose number a row has, and the count of the remarks on it; nothing if there
 // is none.
-fn add_listed<S: Alter + Drop>(
+fn add_listed<C: Database + Drop>(
     page: &mut Vec<Listed>,
-    tables: &mut Tables<S>,
+    tables: &mut Tables<C>,
     alloc: Global,
     row: &Row,
 ) -> Result<(), TableFault>
-    ensures { ReadsOf S.Store tables.old.conn tables.new.conn result
+    ensures { ReadsOf C.state tables.old.conn tables.new.conn result
         (λ v more. IsListedIn v more row.now)
         (λ more _. Adds listed_of page.old.items page.new.items more) }
 {
@@ -92,12 +93,12 @@ fn add_listed<S: Alter + Drop>(
 }
 
 // The submissions whose numbers the rows have.
-fn listed_at<S: Alter + Drop>(
-    tables: &mut Tables<S>,
+fn listed_at<C: Database + Drop>(
+    tables: &mut Tables<C>,
     alloc: Global,
     rows: &[Row],
 ) -> Result<Vec<Listed>, TableFault>
-    ensures { ReadsOf S.Store tables.old.conn tables.new.conn result
+    ensures { ReadsOf C.state tables.old.conn tables.new.conn result
         (λ v listed. AreListedIn v listed rows.now)
         (λ listed page. map listed_of page.items ≡ listed) }
 {
@@ -154,7 +155,7 @@ fn author_or_any(author: Option<&Account>) -> &str
     }
 }
 
-impl<S: Alter + Drop> Tables<S> {
+impl<C: Database + Drop> Tables<C> {
     /// The latest submissions for a path, if one is named, and of an author, if one is named, whose
     /// numbers are below `before`, of which 0 stands for no bound: at most `PAGE` of them, out of at
     /// most `SEARCHED` that are looked at. `before` of the page is where the next one begins; 0 where
@@ -166,7 +167,7 @@ impl<S: Alter + Drop> Tables<S> {
         author: Option<&Account>,
         before: u32,
     ) -> Result<SubmissionPage, TableFault>
-        ensures { Reads S.Store self.old.conn self.new.conn result
+        ensures { Reads C.state self.old.conn self.new.conn result
             (λ v page. submission_page_of page ≡ submissions_of PAGE SEARCHED (record {
               path = option_copied path.entry;
               author = option_copied author.entry;

@@ -8,12 +8,13 @@ ghost use Rattle.pid_tables.specs.declared.lists.walk.EachEnd.TheVariants as end
 ghost use Rattle.pid_tables.specs.Rows.Clauses.{OnlyReads};
 ghost use Rattle.pid_tables.specs.Lists.Clauses.{IsCausedEnd, OverViews};
 
+use crate::database::Database;
 use crate::rows::TableFault;
 use crate::rows::value::{path_at, text_at};
 use crate::tables::Tables;
 use pid_ident::is_name;
 use pid_reader::{Entry, Sink};
-use sqlite::{Alter, Connection, Error as SqlError, Row};
+use sqlite::{Error as SqlError, Row};
 
 /// Why a walk over the items ended early: the tables faulted, or the sink.
 #[derive(Drop)]
@@ -39,7 +40,11 @@ impl<F> From<SqlError> for EachEnd<F> {
 }
 
 // Hands the item of a row to the sink.
-fn hand_on<K: Sink>(row: &Row, line: usize, sink: &mut K) -> Result<(), EachEnd<K::Fault>>
+pub(crate) fn hand_on<K: Sink>(
+    row: &Row,
+    line: usize,
+    sink: &mut K,
+) -> Result<(), EachEnd<K::Fault>>
     ensures { HandsRow K.takes K.faults row.now line sink.old sink.new result }
 {
     let path = path_at(row, 0)?;
@@ -53,38 +58,20 @@ fn hand_on<K: Sink>(row: &Row, line: usize, sink: &mut K) -> Result<(), EachEnd<
     }
 }
 
-// Hands all items to a sink, as `each_item` of `Tables` does.
-fn each_item<S: Alter, K: Sink>(
-    conn: &mut Connection<S>,
-    sink: &mut K,
-) -> Result<(), EachEnd<K::Fault>>
-    requires { conn.old.in_transaction ≡ false }
-    ensures { HandsAll K.takes K.faults S.Store conn.old conn.new sink.old sink.new result }
-{
-    let mut rows = conn.query("SELECT path, name FROM item ORDER BY path", &[])?;
-    'rows: for at in 0..usize::MAX {
-        let Some(row) = rows.next()? else {
-            return Ok(());
-        };
-        hand_on(row, at + 1, sink)?;
-    }
-    Err(EachEnd::Tables(TableFault::Damaged))
-}
-
-impl<S: Alter + Drop> Tables<S> {
+impl<C: Database + Drop> Tables<C> {
     /// Hands all items to a sink, in the canonical order, one at a time: no list of them is made.
     /// The line of an entry is its place among them, counted from 1.
     ///
     /// If it fails, the sink took the items before one, in their order, and faulted at that one,
     /// or was handed no more: nothing that it took is taken back.
     pub fn each_item<K: Sink>(&mut self, sink: &mut K) -> Result<(), EachEnd<K::Fault>>
-        ensures rests { OnlyReads S.Store self.old.conn self.new.conn }
-        ensures told { OverViews S.Store self.old.conn self.new.conn
+        ensures rests { OnlyReads C.state self.old.conn self.new.conn }
+        ensures told { OverViews C.state self.old.conn self.new.conn
             (λ v. Walks K.takes K.faults result (placed_from 1 v.items) sink.old sink.new) }
         ensures some { WalksSome K.takes K.faults result sink.old sink.new }
-        ensures caused { OverViews S.Store self.old.conn self.new.conn
-            (λ v. IsReadable v → IfErr result (IsCausedEnd S.Store self.old.conn self.new.conn)) }
+        ensures caused { OverViews C.state self.old.conn self.new.conn
+            (λ v. IsReadable v → IfErr result (IsCausedEnd C.state self.old.conn self.new.conn)) }
     {
-        each_item(&mut self.conn, sink)
+        self.conn.each_item(sink)
     }
 }

@@ -14,32 +14,33 @@ ghost use Rattle.pid_ident.specs.PathTexts.{path_text};
 ghost use Rattle.pid_moderation.specs.WellMade.{AllItems, HoldsParents};
 ghost use Rattle.pid_tables.specs.Rows.Shows.{AreViews};
 ghost use Rattle.pid_tables.specs.Rows.Steps.Unread.{IsDamagedRow, ReadsAsItem};
-ghost use Rattle.pid_tables.specs.Rows.Writes.{with_name};
+ghost use Rattle.pid_tables.specs.Rows.Steps.Writes.{with_name};
 ghost use Rattle.pid_tables.specs.Rows.Steps.Writes.{without_item};
 ghost use Rattle.pid_tables.specs.Rows.Clauses.{Reads};
 ghost use Rattle.pid_tables.specs.Rows.Steps.Clauses.{ChangesTo};
 
+use crate::database::{Batch, Database};
 use crate::rows::fault::TableFault;
-use crate::rows::run::{read_rows, write_one};
+use crate::rows::run::read_rows;
 use crate::rows::value::{name_at, path_at, stored};
 use crate::tables::Tables;
 use pid_ident::{Name, Path, PathText, hex4};
 use pid_moderation::Item;
+use sqlite::Row;
 use sqlite::types::{ToSql, ValueRef};
-use sqlite::{Alter, Row, Transaction};
 use std::alloc::{AllocError, Global};
 
 // Runs two statements in turn: one with a path and a name, one with the path and a number. A number
 // that 63 bits do not hold is refused with `Store`.
-fn write_both<S: Alter>(
-    tx: &mut Transaction<'_, S>,
+fn write_both<B: Batch>(
+    tx: &mut B,
     naming: &str,
     numbering: &str,
     path: &str,
     name: &str,
     since: u64,
 ) -> Result<(), TableFault>
-    ensures { WritesBoth S.Store (record {
+    ensures { WritesBoth B.batch (record {
       first = naming.now;
       named = TextValue path.now ∷ TextValue name.now ∷ [];
       second = numbering.now;
@@ -49,21 +50,16 @@ fn write_both<S: Alter>(
     let path = path.to_sql();
     let name = name.to_sql();
     let since = stored(since)?;
-    write_one(tx, naming, &[path, name])?;
-    write_one(tx, numbering, &[path, since])
+    tx.write_one(naming, &[path, name])?;
+    tx.write_one(numbering, &[path, since])
 }
 
 /// Adds an item at a path that has none, with the number of its change. The path is the text of a
 /// path, as `PC/8086/1237`; neither it nor the name is tested, and nor is whether the path's parent
 /// is there. A path that has an item is refused with `Store`, and so is a number that 63 bits do
 /// not hold.
-pub fn add_item<S: Alter>(
-    tx: &mut Transaction<'_, S>,
-    path: &str,
-    name: &str,
-    since: u64,
-) -> Result<(), TableFault>
-    ensures { ChangesTo S.Store tx.old tx.new result
+pub fn add_item<B: Batch>(tx: &mut B, path: &str, name: &str, since: u64) -> Result<(), TableFault>
+    ensures { ChangesTo B.batch tx.old tx.new result
         (λ v. item_at path.now v.items ≡ None) (with_name since path.now name.now) }
 {
     write_both(
@@ -79,13 +75,13 @@ pub fn add_item<S: Alter>(
 /// Sets another name of the item at a path, which is not tested, and the number of its change. If
 /// the path has no item, it writes nothing and answers `Ok`. A number that 63 bits do not hold is
 /// refused with `Store`.
-pub fn rename_item<S: Alter>(
-    tx: &mut Transaction<'_, S>,
+pub fn rename_item<B: Batch>(
+    tx: &mut B,
     path: &str,
     name: &str,
     since: u64,
 ) -> Result<(), TableFault>
-    ensures { ChangesTo S.Store tx.old tx.new result
+    ensures { ChangesTo B.batch tx.old tx.new result
         (λ v. IsSome (item_at path.now v.items)
         × (has_name name.now (item_at path.now v.items) ≡ false))
         (with_name since path.now name.now) }
@@ -101,18 +97,18 @@ pub fn rename_item<S: Alter>(
 }
 
 /// Takes the item of a path away, if there is one, with its number. Items below it stay.
-pub fn remove_item<S: Alter>(tx: &mut Transaction<'_, S>, path: &str) -> Result<(), TableFault>
-    ensures { ChangesTo S.Store tx.old tx.new result (λ v. Unit {0})
+pub fn remove_item<B: Batch>(tx: &mut B, path: &str) -> Result<(), TableFault>
+    ensures { ChangesTo B.batch tx.old tx.new result (λ v. Unit {0})
         (without_item path.now) }
 {
     let path = path.to_sql();
-    write_one(tx, "DELETE FROM item WHERE path = ?1", &[path])
+    tx.write_one("DELETE FROM item WHERE path = ?1", &[path])
 }
 
-impl<S: Alter + Drop> Tables<S> {
+impl<C: Database + Drop> Tables<C> {
     /// The name of the item at a path. A stored text that is no name is `Damaged`.
     pub fn item(&mut self, alloc: Global, path: &Path) -> Result<Option<Name>, TableFault>
-        ensures { Reads S.Store self.old.conn self.new.conn result
+        ensures { Reads C.state self.old.conn self.new.conn result
             (λ v name. name ≡ item_at (path_text path.now) v.items) }
     {
         let text = path.path_text(alloc)?;
@@ -146,13 +142,13 @@ pub fn range_below(alloc: Global, front: &[u8], rest: &[u8]) -> Result<Range, Al
 }
 
 // Whether some item's path goes on after the text of the two parts and a slash.
-fn any_below<S: Alter + Drop>(
-    tables: &mut Tables<S>,
+fn any_below<C: Database + Drop>(
+    tables: &mut Tables<C>,
     alloc: Global,
     front: &[u8],
     rest: &[u8],
 ) -> Result<bool, TableFault>
-    ensures { Reads S.Store tables.old.conn tables.new.conn result
+    ensures { Reads C.state tables.old.conn tables.new.conn result
         (λ v some. AreViews v × (some ≡ holds_under (front.now ++ rest.now) v.items)) }
 {
     let range = range_below(alloc, front, rest)?;
@@ -167,12 +163,12 @@ fn any_below<S: Alter + Drop>(
 }
 
 /// Whether some item has the path as its parent. A generic subsystem counts for its vendor.
-pub fn has_children<S: Alter + Drop>(
-    tables: &mut Tables<S>,
+pub fn has_children<C: Database + Drop>(
+    tables: &mut Tables<C>,
     alloc: Global,
     path: Path,
 ) -> Result<bool, TableFault>
-    ensures { Reads S.Store tables.old.conn tables.new.conn result
+    ensures { Reads C.state tables.old.conn tables.new.conn result
         (λ v some. AllItems v.items → HoldsParents v.items
         → some ≡ are_children (path_text path) v.items) }
 {

@@ -32,39 +32,35 @@ ghost use Rattle.pid_tables.specs.Rows.Steps.Writes.{with_revision};
 ghost use Rattle.pid_tables.specs.Rows.Clauses.{HasCleanDisk, Reads, seen};
 ghost use Rattle.pid_tables.specs.Rows.Steps.Clauses.{ChangesTo, LeadsTo, ReadsLabel};
 
+use crate::database::{Batch, Database};
 use crate::rows::fault::TableFault;
-use crate::rows::run::{read_inside, read_rows, write_one};
+use crate::rows::run::read_rows;
 use crate::rows::value::{number_at, stored, whole_at};
 use crate::tables::Tables;
+use sqlite::Row;
 use sqlite::types::ToSql;
-use sqlite::{Alter, Row, Transaction};
 
 /// Writes how many items there are into the table of counts. It does not count them.
-pub fn count_items<S: Alter>(tx: &mut Transaction<'_, S>, count: u32) -> Result<(), TableFault>
-    ensures { LeadsTo S.Store tx.old tx.new result
+pub fn count_items<B: Batch>(tx: &mut B, count: u32) -> Result<(), TableFault>
+    ensures { LeadsTo B.batch tx.old tx.new result
         (recounting (λ c. record c { items = count })) }
 {
     let label = "items".to_sql();
     let value = count.to_sql();
-    write_one(
-        tx,
+    tx.write_one(
         "UPDATE meta SET value = ?2 WHERE label = ?1",
         &[label, value],
     )
 }
 
 /// Writes how many submissions there are into the table of counts. It does not count them.
-pub fn count_submissions<S: Alter>(
-    tx: &mut Transaction<'_, S>,
-    count: u32,
-) -> Result<(), TableFault>
-    ensures { LeadsTo S.Store tx.old tx.new result
+pub fn count_submissions<B: Batch>(tx: &mut B, count: u32) -> Result<(), TableFault>
+    ensures { LeadsTo B.batch tx.old tx.new result
         (recounting (λ c. record c { submissions = count })) }
 {
     let label = "submissions".to_sql();
     let value = count.to_sql();
-    write_one(
-        tx,
+    tx.write_one(
         "UPDATE meta SET value = ?2 WHERE label = ?1",
         &[label, value],
     )
@@ -72,14 +68,13 @@ pub fn count_submissions<S: Alter>(
 
 /// Writes how many commands were accepted. A number that 63 bits do not hold is refused with
 /// `Store`.
-pub fn set_revision<S: Alter>(tx: &mut Transaction<'_, S>, revision: u64) -> Result<(), TableFault>
-    ensures { ChangesTo S.Store tx.old tx.new result (λ v. Unit {0})
+pub fn set_revision<B: Batch>(tx: &mut B, revision: u64) -> Result<(), TableFault>
+    ensures { ChangesTo B.batch tx.old tx.new result (λ v. Unit {0})
         (with_revision revision) }
 {
     let label = "revision".to_sql();
     let value = stored(revision)?;
-    write_one(
-        tx,
+    tx.write_one(
         "UPDATE meta SET value = ?2 WHERE label = ?1",
         &[label, value],
     )
@@ -87,23 +82,26 @@ pub fn set_revision<S: Alter>(tx: &mut Transaction<'_, S>, revision: u64) -> Res
 
 /// Reads one row and drops it: an answer of `Ok` means that the connection is open and the
 /// transaction goes on.
-pub fn probe_transaction<S: Alter>(tx: &mut Transaction<'_, S>) -> Result<(), TableFault>
-    ensures { ChangesTo S.Store tx.old tx.new result (λ v. Unit {0})
+pub fn probe_transaction<B: Batch>(tx: &mut B) -> Result<(), TableFault>
+    ensures { ChangesTo B.batch tx.old tx.new result (λ v. Unit {0})
         (λ v. v) }
 {
     let label = "schema".to_sql();
-    read_inside(tx, "SELECT value FROM meta WHERE label = ?1", &[label])?;
+    tx.read_inside("SELECT value FROM meta WHERE label = ?1", &[label])?;
     Ok(())
 }
 
-fn value_rows<S: Alter + Drop>(tables: &mut Tables<S>, label: &str) -> Result<Vec<Row>, TableFault>
-    ensures reads { Reads S.Store tables.old.conn tables.new.conn result
+fn value_rows<C: Database + Drop>(
+    tables: &mut Tables<C>,
+    label: &str,
+) -> Result<Vec<Row>, TableFault>
+    ensures reads { Reads C.state tables.old.conn tables.new.conn result
         (λ v rows. slice_get rows.items 0
         ≡ option_map value_row (meta_of (counts_of v) v.revision label.now)) }
-    ensures shows { HasCleanDisk S.Store tables.new.conn
-        → IfOk result (λ rows. ShowsValues (seen S.Store tables.old.conn) label.now rows.items) }
-    ensures only_store { HasCleanDisk S.Store tables.new.conn → (query : Compiled)
-        → understood (seen S.Store tables.old.conn).schema value_text ≡ Ok query
+    ensures shows { HasCleanDisk C.state tables.new.conn
+        → IfOk result (λ rows. ShowsValues (seen C.state tables.old.conn) label.now rows.items) }
+    ensures only_store { HasCleanDisk C.state tables.new.conn → (query : Compiled)
+        → understood (seen C.state tables.old.conn).schema value_text ≡ Ok query
         → IfErr result IsMemoryOrStore }
     ensures never { IfErr result IsNotNewerSchema }
 {
@@ -112,8 +110,8 @@ fn value_rows<S: Alter + Drop>(tables: &mut Tables<S>, label: &str) -> Result<Ve
 }
 
 // The number of one of the three labels that both schemas have.
-fn count<S: Alter + Drop>(tables: &mut Tables<S>, label: &str) -> Result<u32, TableFault>
-    ensures { ReadsLabel S.Store label.now tables.old.conn tables.new.conn result }
+fn count<C: Database + Drop>(tables: &mut Tables<C>, label: &str) -> Result<u32, TableFault>
+    ensures { ReadsLabel C.state label.now tables.old.conn tables.new.conn result }
 {
     let rows = value_rows(tables, label)?;
     match rows.first() {
@@ -125,28 +123,28 @@ fn count<S: Alter + Drop>(tables: &mut Tables<S>, label: &str) -> Result<u32, Ta
 /// The number of the schema, by the table of counts: 1 or 2 in tables that this program made,
 /// another in those of a later one. A number that is missing, or that 32 bits do not hold, is
 /// `Damaged`.
-pub fn schema_number<S: Alter + Drop>(tables: &mut Tables<S>) -> Result<u32, TableFault>
-    ensures reads { Reads S.Store tables.old.conn tables.new.conn result (λ v n. n ≡ latest) }
+pub fn schema_number<C: Database + Drop>(tables: &mut Tables<C>) -> Result<u32, TableFault>
+    ensures reads { Reads C.state tables.old.conn tables.new.conn result (λ v n. n ≡ latest) }
     // Whatever the schema: it is what the query of the label answers first, and `Damaged` if
     // that is no number.
-    ensures shown { HasCleanDisk S.Store tables.new.conn
-        → MatchResult result (ShowsNumber (seen S.Store tables.old.conn) (codes "schema"))
-        (IsDamageOf (ShowsNoNumber (seen S.Store tables.old.conn) (codes "schema"))) }
+    ensures shown { HasCleanDisk C.state tables.new.conn
+        → MatchResult result (ShowsNumber (seen C.state tables.old.conn) (codes "schema"))
+        (IsDamageOf (ShowsNoNumber (seen C.state tables.old.conn) (codes "schema"))) }
     // The same by what storage has, if the table was made first, whatever comes after it.
-    ensures stored { HasCleanDisk S.Store tables.new.conn
-        → IsMetaFirst (seen S.Store tables.old.conn).schema
-        → MatchResult result (HasLabel (seen S.Store tables.old.conn).trees (codes "schema"))
-        (ExplainsNumber (seen S.Store tables.old.conn).trees (codes "schema")) }
+    ensures stored { HasCleanDisk C.state tables.new.conn
+        → IsMetaFirst (seen C.state tables.old.conn).schema
+        → MatchResult result (HasLabel (seen C.state tables.old.conn).trees (codes "schema"))
+        (ExplainsNumber (seen C.state tables.old.conn).trees (codes "schema")) }
     ensures never { IfErr result IsNotNewerSchema }
 {
     count(tables, "schema")
 }
 
-impl<S: Alter + Drop> Tables<S> {
+impl<C: Database + Drop> Tables<C> {
     /// How many items there are, by the table of counts. A count that is missing, or that 32 bits do
     /// not hold, is `Damaged`.
     pub fn items(&mut self) -> Result<u32, TableFault>
-        ensures { Reads S.Store self.old.conn self.new.conn result (λ v n. n ≡ length v.items) }
+        ensures { Reads C.state self.old.conn self.new.conn result (λ v n. n ≡ length v.items) }
     {
         count(self, "items")
     }
@@ -154,7 +152,7 @@ impl<S: Alter + Drop> Tables<S> {
     /// How many submissions there are, by the table of counts. A count that is missing, or that 32 bits
     /// do not hold, is `Damaged`.
     pub fn submissions(&mut self) -> Result<u32, TableFault>
-        ensures { Reads S.Store self.old.conn self.new.conn result (λ v n. n ≡ length v.submits) }
+        ensures { Reads C.state self.old.conn self.new.conn result (λ v n. n ≡ length v.submits) }
     {
         count(self, "submissions")
     }
@@ -162,7 +160,7 @@ impl<S: Alter + Drop> Tables<S> {
     /// How many commands were accepted, by the table of counts. A number that is missing, or that is no
     /// whole number, is `Damaged`.
     pub fn revision(&mut self) -> Result<u64, TableFault>
-        ensures { Reads S.Store self.old.conn self.new.conn result (λ v n. n ≡ v.revision) }
+        ensures { Reads C.state self.old.conn self.new.conn result (λ v n. n ≡ v.revision) }
     {
         let rows = value_rows(self, "revision")?;
         match rows.first() {

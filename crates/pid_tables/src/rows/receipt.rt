@@ -10,14 +10,14 @@ ghost use Rattle.pid_tables.specs.Rows.Steps.Writes.{with_reply};
 ghost use Rattle.pid_tables.specs.Rows.Clauses.{Reads};
 ghost use Rattle.pid_tables.specs.Rows.Steps.Clauses.{ChangesTo};
 
+use crate::database::{Batch, Database};
 use crate::rows::fault::TableFault;
-use crate::rows::run::{read_rows, write_one};
+use crate::rows::run::read_rows;
 use crate::rows::value::reply_at;
 use crate::tables::Tables;
 use pid_ident::{Account, Key};
 use pid_moderation::Reply;
 use sqlite::types::ToSql;
-use sqlite::{Alter, Transaction};
 
 // The kind of a reply and its numbers, 0 where it has none.
 fn numbers(reply: Reply) -> (u32, u32, u32, u32)
@@ -39,13 +39,13 @@ fn numbers(reply: Reply) -> (u32, u32, u32, u32)
 
 /// Keeps a reply under an account and a key that have none yet. One that is kept already is refused
 /// with `Store`, and so is an account that is not there.
-pub fn keep_reply<S: Alter>(
-    tx: &mut Transaction<'_, S>,
+pub fn keep_reply<B: Batch>(
+    tx: &mut B,
     account: &Account,
     key: &Key,
     reply: Reply,
 ) -> Result<(), TableFault>
-    ensures { ChangesTo S.Store tx.old tx.new result
+    ensures { ChangesTo B.batch tx.old tx.new result
         (λ v. v.kept account.now key.now ≡ None)
         (with_reply account.now key.now reply) }
 {
@@ -56,8 +56,7 @@ pub fn keep_reply<S: Alter>(
     let first = first.to_sql();
     let second = second.to_sql();
     let third = third.to_sql();
-    write_one(
-        tx,
+    tx.write_one(
         "INSERT INTO receipt (account, token, kind, a, b, c) VALUES (?1, ?2, ?3, ?4, ?5, ?6)",
         &[account, key, kind, first, second, third],
     )
@@ -65,12 +64,12 @@ pub fn keep_reply<S: Alter>(
 
 /// The reply that is kept under an account and a key, or none if there is none. Numbers that
 /// are no reply's are `Damaged`.
-pub fn kept_reply<S: Alter + Drop>(
-    tables: &mut Tables<S>,
+pub fn kept_reply<C: Database + Drop>(
+    tables: &mut Tables<C>,
     account: &str,
     key: &str,
 ) -> Result<Option<Reply>, TableFault>
-    ensures { Reads S.Store tables.old.conn tables.new.conn result
+    ensures { Reads C.state tables.old.conn tables.new.conn result
         (λ v reply. reply ≡ v.kept account.now key.now) }
 {
     let account = account.to_sql();

@@ -7,27 +7,28 @@ ghost use Rattle.pid_tables.specs.Rows.Steps.Writes.{with_remark};
 ghost use Rattle.pid_tables.specs.Rows.Clauses.{Reads};
 ghost use Rattle.pid_tables.specs.Rows.Steps.Clauses.{ChangesTo};
 
+use crate::database::{Batch, Database};
 use crate::rows::fault::TableFault;
-use crate::rows::run::{read_rows, write_one};
+use crate::rows::run::read_rows;
 use crate::rows::value::{account_at, number_at, words_at};
 use crate::tables::Tables;
 use pid_ident::{Account, Text};
 use pid_moderation::Comment;
+use sqlite::Row;
 use sqlite::types::ToSql;
-use sqlite::{Alter, Row, Transaction};
 use std::alloc::Global;
 
 /// Adds a remark after the last one on its submission. `number` is the submission's, and `place`
 /// one more than its remarks are so far: they count from 1. A submission or an author that is not
 /// there is refused with `Store`.
-pub fn add_remark<S: Alter>(
-    tx: &mut Transaction<'_, S>,
+pub fn add_remark<B: Batch>(
+    tx: &mut B,
     number: u32,
     place: u32,
     author: &Account,
     text: &Text,
 ) -> Result<(), TableFault>
-    ensures { ChangesTo S.Store tx.old tx.new result
+    ensures { ChangesTo B.batch tx.old tx.new result
         (λ v. place ≡ length (v.remarks number) + 1)
         (with_remark number (record { author = author.now; text = text.now })) }
 {
@@ -35,8 +36,7 @@ pub fn add_remark<S: Alter>(
     let place = place.to_sql();
     let author = author.as_str().to_sql();
     let text = text.as_str().to_sql();
-    write_one(
-        tx,
+    tx.write_one(
         "INSERT INTO remark (num, seq, author, body) VALUES (?1, ?2, ?3, ?4)",
         &[number, place, author, text],
     )
@@ -44,8 +44,11 @@ pub fn add_remark<S: Alter>(
 
 /// How many remarks there are on the submission with a number: the place of the last one. No such
 /// submission has 0.
-pub fn remark_count<S: Alter + Drop>(tables: &mut Tables<S>, number: u32) -> Result<u32, TableFault>
-    ensures { Reads S.Store tables.old.conn tables.new.conn result
+pub fn remark_count<C: Database + Drop>(
+    tables: &mut Tables<C>,
+    number: u32,
+) -> Result<u32, TableFault>
+    ensures { Reads C.state tables.old.conn tables.new.conn result
         (λ v count. count ≡ length (v.remarks number)) }
 {
     let number = number.to_sql();

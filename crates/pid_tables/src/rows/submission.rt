@@ -19,14 +19,15 @@ ghost use Rattle.pid_tables.specs.Rows.Steps.Writes.{with_submission, with_state
 ghost use Rattle.pid_tables.specs.Rows.Clauses.{Reads};
 ghost use Rattle.pid_tables.specs.Rows.Steps.Clauses.{ChangesTo};
 
+use crate::database::{Batch, Database};
 use crate::rows::fault::TableFault;
-use crate::rows::run::{read_rows, write_one};
+use crate::rows::run::read_rows;
 use crate::rows::value::{account_at, path_at, proposal_at, state_at, words_at};
 use crate::tables::Tables;
 use pid_ident::{Account, Path, PathText, Text};
 use pid_moderation::{Proposal, State, Submission};
+use sqlite::Row;
 use sqlite::types::ToSql;
-use sqlite::{Alter, Row, Transaction};
 use std::alloc::Global;
 
 // The form of a proposal and the name that it proposes.
@@ -43,8 +44,8 @@ fn form_and_name(proposal: &Proposal) -> (u32, &str)
 /// Adds a pending submission after the last one. `number` is one more than the submissions are so
 /// far: they count from 1. A number that is taken, or an author that is not there, is refused with
 /// `Store`.
-pub fn add_submission<'x, S: Alter>(
-    tx: &mut Transaction<'_, S>,
+pub fn add_submission<'x, B: Batch>(
+    tx: &mut B,
     alloc: Global,
     number: u32,
     author: &'x Account,
@@ -52,7 +53,7 @@ pub fn add_submission<'x, S: Alter>(
     proposal: &'x Proposal,
     note: &'x Text,
 ) -> Result<(), TableFault>
-    ensures { ChangesTo S.Store tx.old tx.new result
+    ensures { ChangesTo B.batch tx.old tx.new result
         (λ v. number ≡ length v.submits + 1)
         (with_submission (record {
           author = author.now;
@@ -69,8 +70,7 @@ pub fn add_submission<'x, S: Alter>(
     let form = form.to_sql();
     let name = name.to_sql();
     let note = note.as_str().to_sql();
-    write_one(
-        tx,
+    tx.write_one(
         "INSERT INTO submission (num, author, path, form, name, note, state, decider, reason) \
             VALUES (?1, ?2, ?3, ?4, ?5, ?6, 0, '', '')",
         &[number, author, path, form, name, note],
@@ -93,18 +93,13 @@ fn state_columns(state: &State) -> (u32, &str, &str)
 
 /// Sets the state of the submission with a number, whatever its state is. If there is no such
 /// submission, it writes nothing and answers `Ok`.
-pub fn decide<S: Alter>(
-    tx: &mut Transaction<'_, S>,
-    number: u32,
-    state: &State,
-) -> Result<(), TableFault>
-    ensures { ChangesTo S.Store tx.old tx.new result
+pub fn decide<B: Batch>(tx: &mut B, number: u32, state: &State) -> Result<(), TableFault>
+    ensures { ChangesTo B.batch tx.old tx.new result
         (λ v. IsSome (submission_at number v.submits))
         (with_state number state.now) }
 {
     if let State::Withdrawn = state {
-        return write_one(
-            tx,
+        return tx.write_one(
             "UPDATE submission SET state = 3, decider = author, reason = '' WHERE num = ?1",
             &[number.to_sql()],
         );
@@ -114,8 +109,7 @@ pub fn decide<S: Alter>(
     let told = told.to_sql();
     let decider = decider.to_sql();
     let reason = reason.to_sql();
-    write_one(
-        tx,
+    tx.write_one(
         "UPDATE submission SET state = ?2, decider = ?3, reason = ?4 WHERE num = ?1",
         &[number, told, decider, reason],
     )
@@ -144,12 +138,12 @@ pub fn submission_of(row: &Row, alloc: Global) -> Result<Submission, TableFault>
 
 /// The submission with a number, as it stands, or none if there is none. A row that is no
 /// submission's is `Damaged`.
-pub fn standing<S: Alter + Drop>(
-    tables: &mut Tables<S>,
+pub fn standing<C: Database + Drop>(
+    tables: &mut Tables<C>,
     alloc: Global,
     number: u32,
 ) -> Result<Option<Submission>, TableFault>
-    ensures { Reads S.Store tables.old.conn tables.new.conn result
+    ensures { Reads C.state tables.old.conn tables.new.conn result
         (λ v s. option_map standing_of s ≡ standing_in v number) }
 {
     pid_ident::laws::texts_have_one_path(); // proof only

@@ -6,13 +6,14 @@ ghost use Rattle.pid_tables.specs.Searches.Filings.{filed_as};
 ghost use Rattle.pid_tables.specs.Searches.KeptNumbers.{AreKeptFor, HoldsNumbers};
 ghost use Rattle.pid_tables.specs.Searches.Steps.FilingRows.{filing_row};
 
+use crate::database::Database;
 use crate::rows::TableFault;
 use crate::rows::run::read_rows;
 use crate::rows::value::text_at;
 use crate::searches::numbers::{Kept, Searches, add_number};
 use crate::tables::Tables;
+use sqlite::Row;
 use sqlite::types::ToSql;
-use sqlite::{Alter, Row};
 use std::alloc::Global;
 use std::collections::BTreeMap;
 
@@ -23,8 +24,11 @@ const ROWS: usize = 1_000;
 const TIMES: u32 = 10_001;
 
 // The paths and the authors of the submissions above a number, `ROWS` at most.
-fn filing_rows<S: Alter + Drop>(tables: &mut Tables<S>, after: u32) -> Result<Vec<Row>, TableFault>
-    ensures { Reads S.Store tables.old.conn tables.new.conn result
+fn filing_rows<C: Database + Drop>(
+    tables: &mut Tables<C>,
+    after: u32,
+) -> Result<Vec<Row>, TableFault>
+    ensures { Reads C.state tables.old.conn tables.new.conn result
         (λ v rows. rows.items ≡ map filing_row (take ROWS (drop after v.submits))) }
 {
     let after = after.to_sql();
@@ -70,10 +74,10 @@ fn add_rows(kept: &mut Kept, alloc: Global, after: u32, rows: &[Row]) -> bool
     true
 }
 
-impl<S: Alter + Drop> Tables<S> {
+impl<C: Database + Drop> Tables<C> {
     /// The numbers of all submissions, if memory is there and they are at most 10,000,000.
     pub fn read_numbers(&mut self, alloc: Global) -> Result<Searches, TableFault>
-        ensures { Reads S.Store self.old.conn self.new.conn result (λ v numbers. HoldsNumbers numbers v) }
+        ensures { Reads C.state self.old.conn self.new.conn result (λ v numbers. HoldsNumbers numbers v) }
     {
         let mut kept = Kept {
             paths: BTreeMap::new(alloc),

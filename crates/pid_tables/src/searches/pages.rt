@@ -23,6 +23,7 @@ ghost use Rattle.pid_tables.specs.Rows.Clauses.{Reads};
 ghost use Rattle.pid_tables.specs.Searches.Steps.Among.{found_among};
 ghost use Rattle.pid_tables.specs.Searches.KeptNumbers.{HoldsNumbers};
 
+use crate::database::Database;
 use crate::lists::adding::push_last;
 use crate::lists::submissions::next_of;
 use crate::rows::TableFault;
@@ -32,7 +33,6 @@ use crate::searches::numbers::{Searches, list_below};
 use crate::tables::Tables;
 use pid_ident::{Account, Path};
 use pid_moderation::{Listed, PAGE, Submission, SubmissionPage};
-use sqlite::Alter;
 use std::alloc::Global;
 
 // Whether the path is the one that is wanted, if one is.
@@ -66,15 +66,15 @@ fn is_of(path: Option<&Path>, author: Option<&Account>, submission: &Submission)
 }
 
 // Adds the submission with a number, if it is sought, and the count of the remarks on it.
-fn add_sought<S: Alter + Drop>(
+fn add_sought<C: Database + Drop>(
     page: &mut Vec<Listed>,
-    tables: &mut Tables<S>,
+    tables: &mut Tables<C>,
     alloc: Global,
     number: u32,
     path: Option<&Path>,
     author: Option<&Account>,
 ) -> Result<(), TableFault>
-    ensures { Reads S.Store tables.old.conn tables.new.conn result
+    ensures { Reads C.state tables.old.conn tables.new.conn result
         (λ v _. Adds listed_of page.old.items page.new.items (found_among (option_copied path.entry)
         (option_copied author.entry) (number ∷ []) v)) }
 {
@@ -104,14 +104,14 @@ fn add_sought<S: Alter + Drop>(
 }
 
 // The submissions that are sought among these numbers, the last one first, at most a page of them.
-fn sought_at<S: Alter + Drop>(
-    tables: &mut Tables<S>,
+fn sought_at<C: Database + Drop>(
+    tables: &mut Tables<C>,
     alloc: Global,
     numbers: &[u32],
     path: Option<&Path>,
     author: Option<&Account>,
 ) -> Result<Vec<Listed>, TableFault>
-    ensures { Reads S.Store tables.old.conn tables.new.conn result
+    ensures { Reads C.state tables.old.conn tables.new.conn result
         (λ v page. map listed_of page.items ≡ take PAGE (found_among (option_copied path.entry)
         (option_copied author.entry) (reverse numbers.now) v)) }
 {
@@ -126,7 +126,7 @@ fn sought_at<S: Alter + Drop>(
     Ok(page)
 }
 
-impl<S: Alter + Drop> Tables<S> {
+impl<C: Database + Drop> Tables<C> {
     /// A page of the submissions for a path and of an author, where one is named, the latest first,
     /// whose numbers are below `before`, of which 0 stands for no bound: by the numbers that are kept,
     /// and if none are, by a walk over all submissions.
@@ -138,7 +138,7 @@ impl<S: Alter + Drop> Tables<S> {
         author: Option<&Account>,
         before: u32,
     ) -> Result<SubmissionPage, TableFault>
-        ensures { Reads S.Store self.old.conn self.new.conn result (λ v page. HoldsNumbers numbers.now v
+        ensures { Reads C.state self.old.conn self.new.conn result (λ v page. HoldsNumbers numbers.now v
             → submission_page_of page ≡ submissions_of PAGE (length v.submits) (record {
               path = option_copied path.entry;
               author = option_copied author.entry;

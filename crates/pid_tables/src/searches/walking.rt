@@ -5,11 +5,11 @@ ghost use Rattle.pid_moderation.specs.SubmissionPages.{listed_of, sought_in};
 ghost use Rattle.pid_tables.specs.Rows.Clauses.{Reads};
 ghost use Rattle.pid_tables.specs.declared.rows.fault.TableFault.TheVariants as faults;
 
+use crate::database::Database;
 use crate::rows::TableFault;
 use crate::tables::Tables;
 use pid_ident::{Account, Path};
 use pid_moderation::{Listed, PAGE};
-use sqlite::Alter;
 use std::alloc::Global;
 
 // Adds a page after the last one.
@@ -24,7 +24,7 @@ fn add_page(found: &mut Vec<Listed>, page: Vec<Listed>) -> Result<(), TableFault
     }
 }
 
-impl<S: Alter + Drop> Tables<S> {
+impl<C: Database + Drop> Tables<C> {
     /// The submissions of a page, found by pages of the tables, which look at some of them each.
     pub(crate) fn walk(
         &mut self,
@@ -33,7 +33,7 @@ impl<S: Alter + Drop> Tables<S> {
         author: Option<&Account>,
         before: u32,
     ) -> Result<Vec<Listed>, TableFault>
-        ensures { Reads S.Store self.old.conn self.new.conn result
+        ensures { Reads C.state self.old.conn self.new.conn result
             (λ v found. map listed_of found.items ≡ take PAGE (sought_in (record {
               path = option_copied path.entry;
               author = option_copied author.entry;

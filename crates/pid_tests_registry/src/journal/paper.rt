@@ -120,9 +120,9 @@ impl JournalFolder for PaperFolder {
 }
 
 /// A registry in memory, with a journal in memory in front of it.
-pub(crate) type OnPaper = Journaled<Registry<MemStore>, Paper>;
+pub(crate) type OnPaper = Journaled<Registry<Connection<MemStore>>, Paper>;
 
-fn new_in_memory(alloc: Global) -> Result<Registry<MemStore>, Fail> {
+fn new_in_memory(alloc: Global) -> Result<Registry<Connection<MemStore>>, Fail> {
     let conn = Connection::open_in_memory(alloc)?;
     if !conn.is_autocommit() {
         return Err("a transaction is left")?;

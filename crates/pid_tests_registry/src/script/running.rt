@@ -12,7 +12,7 @@ use std::test::Fail;
 /// More reads than any script of these tests takes.
 pub(crate) const TURNS: u64 = 1_000_000;
 
-fn new_in_memory(alloc: Global) -> Result<Registry<MemStore>, Fail> {
+fn new_in_memory(alloc: Global) -> Result<Registry<Connection<MemStore>>, Fail> {
     let conn = Connection::open_in_memory(alloc)?;
     if !conn.is_autocommit() {
         return Err("a transaction is left")?;

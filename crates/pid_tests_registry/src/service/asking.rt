@@ -12,16 +12,17 @@ use pid_moderation::{
     Changes, Discussion, Pending, Proposal, Refusal, Reply, State, Submission, reply_line,
 };
 use pid_service::{ExportFault, ImportEnd, Registry, RegistryCalls, RegistryQueries, open};
-use sqlite::{Alter, Connection, MemStore};
+use pid_tables::WritableDatabase;
+use sqlite::{Connection, MemStore};
 use std::alloc::Global;
 use std::process::Abort;
 use std::test::Fail;
 
 // A connection within a transaction is refused too.
-pub(crate) fn opened<S: Alter + Drop>(
+pub(crate) fn opened<C: WritableDatabase + Drop>(
     alloc: Global,
-    conn: Connection<S>,
-) -> Result<Registry<S>, Fail> {
+    conn: C,
+) -> Result<Registry<C>, Fail> {
     match open(alloc, conn) {
         Ok(registry) => Ok(registry),
         Err((fault, _)) => Err(Fail::from(fault)),
@@ -29,7 +30,7 @@ pub(crate) fn opened<S: Alter + Drop>(
 }
 
 // A new registry in memory.
-pub(crate) fn new_in_memory(alloc: Global) -> Result<Registry<MemStore>, Fail> {
+pub(crate) fn new_in_memory(alloc: Global) -> Result<Registry<Connection<MemStore>>, Fail> {
     opened(alloc, Connection::open_in_memory(alloc)?)
 }
 
@@ -105,8 +106,8 @@ fn refused(alloc: Global, refusal: Refusal) -> Result<String, Fail> {
 }
 
 // What the import of a whole file is answered.
-fn imported<S: Alter + Drop>(
-    registry: &mut Registry<S>,
+fn imported<C: WritableDatabase + Drop>(
+    registry: &mut Registry<C>,
     alloc: Global,
     caller: &str,
     file: &[u8],
@@ -116,8 +117,8 @@ fn imported<S: Alter + Drop>(
 }
 
 // What an import is answered whose file comes in chunks.
-pub(crate) fn imported_from<S: Alter + Drop, I: Input>(
-    registry: &mut Registry<S>,
+pub(crate) fn imported_from<C: WritableDatabase + Drop, I: Input>(
+    registry: &mut Registry<C>,
     alloc: Global,
     caller: &str,
     input: &mut I,
@@ -130,8 +131,8 @@ pub(crate) fn imported_from<S: Alter + Drop, I: Input>(
     }
 }
 
-fn import<S: Alter + Drop>(
-    registry: &mut Registry<S>,
+fn import<C: WritableDatabase + Drop>(
+    registry: &mut Registry<C>,
     alloc: Global,
     rest: &str,
 ) -> Result<String, Fail> {
@@ -141,8 +142,8 @@ fn import<S: Alter + Drop>(
 }
 
 // An import whose file comes in chunks of at most seven bytes.
-fn slowly<S: Alter + Drop>(
-    registry: &mut Registry<S>,
+fn slowly<C: WritableDatabase + Drop>(
+    registry: &mut Registry<C>,
     alloc: Global,
     rest: &str,
 ) -> Result<String, Fail> {
@@ -152,8 +153,8 @@ fn slowly<S: Alter + Drop>(
     imported_from(registry, alloc, caller, &mut input)
 }
 
-fn obey<S: Alter + Drop>(
-    registry: &mut Registry<S>,
+fn obey<C: WritableDatabase + Drop>(
+    registry: &mut Registry<C>,
     alloc: Global,
     row: &str,
 ) -> Result<String, Fail> {
@@ -163,7 +164,10 @@ fn obey<S: Alter + Drop>(
     }
 }
 
-fn export<S: Alter + Drop>(registry: &mut Registry<S>, alloc: Global) -> Result<String, Fail> {
+fn export<C: WritableDatabase + Drop>(
+    registry: &mut Registry<C>,
+    alloc: Global,
+) -> Result<String, Fail> {
     let mut output = FaultyOutput::new(alloc, 4_096);
     match registry.export(&mut output) {
         Ok(()) => {
@@ -195,8 +199,8 @@ fn pending_line(alloc: Global, found: &Pending) -> Result<String, Fail> {
     item_line(alloc, before.as_str(), submission.path, name)
 }
 
-fn pending<S: Alter + Drop>(
-    registry: &mut Registry<S>,
+fn pending<C: WritableDatabase + Drop>(
+    registry: &mut Registry<C>,
     alloc: Global,
     after: &str,
 ) -> Result<String, Fail> {
@@ -242,8 +246,8 @@ fn discussion_line(alloc: Global, found: &Discussion) -> Result<String, Fail> {
     Ok(told)
 }
 
-fn submission<S: Alter + Drop>(
-    registry: &mut Registry<S>,
+fn submission<C: WritableDatabase + Drop>(
+    registry: &mut Registry<C>,
     alloc: Global,
     number: &str,
 ) -> Result<String, Fail> {
@@ -264,8 +268,8 @@ fn changes_line(alloc: Global, found: &Changes) -> Result<String, Fail> {
 }
 
 // The revision, and the items that were named after a revision.
-fn changes<S: Alter + Drop>(
-    registry: &mut Registry<S>,
+fn changes<C: WritableDatabase + Drop>(
+    registry: &mut Registry<C>,
     alloc: Global,
     since: &str,
 ) -> Result<String, Fail> {
@@ -275,8 +279,8 @@ fn changes<S: Alter + Drop>(
     }
 }
 
-fn lookup<S: Alter + Drop>(
-    registry: &mut Registry<S>,
+fn lookup<C: WritableDatabase + Drop>(
+    registry: &mut Registry<C>,
     alloc: Global,
     fields: &str,
 ) -> Result<String, Fail> {
@@ -297,8 +301,8 @@ fn lookup<S: Alter + Drop>(
 }
 
 // What the registry answers to a row.
-pub(crate) fn told<S: Alter + Drop>(
-    registry: &mut Registry<S>,
+pub(crate) fn told<C: WritableDatabase + Drop>(
+    registry: &mut Registry<C>,
     alloc: Global,
     row: &str,
 ) -> Result<String, Fail> {
@@ -316,10 +320,10 @@ pub(crate) fn told<S: Alter + Drop>(
 }
 
 // Asserts what the registry answers to a row.
-pub(crate) fn expect_answer<S: Alter + Drop>(
+pub(crate) fn expect_answer<C: WritableDatabase + Drop>(
     rt: &impl Abort,
     alloc: Global,
-    registry: &mut Registry<S>,
+    registry: &mut Registry<C>,
     asked: &str,
     expected: &str,
 ) -> Result<(), Fail> {
@@ -329,10 +333,10 @@ pub(crate) fn expect_answer<S: Alter + Drop>(
 }
 
 // The same, row by row.
-pub(crate) fn expect_told<S: Alter + Drop>(
+pub(crate) fn expect_told<C: WritableDatabase + Drop>(
     rt: &impl Abort,
     alloc: Global,
-    registry: &mut Registry<S>,
+    registry: &mut Registry<C>,
     rows: &str,
 ) -> Result<(), Fail> {
     for row in rows.lines() {

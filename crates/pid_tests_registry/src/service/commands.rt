@@ -4,7 +4,7 @@ use crate::service::rows::command_in;
 use pid_ident::Text;
 use pid_moderation::{Act, Command, Refusal, Reply};
 use pid_service::{Registry, RegistryCalls};
-use sqlite::Alter;
+use pid_tables::WritableDatabase;
 use std::alloc::Global;
 use std::process::Abort;
 use std::test::Fail;
@@ -59,10 +59,10 @@ reject k1/root num=1&reason=no | ok
 submission 1 | root PC/8086 a;pending
 ";
 
-fn expect_texts<S: Alter + Drop>(
+fn expect_texts<C: WritableDatabase + Drop>(
     rt: &impl Abort,
     alloc: Global,
-    registry: &mut Registry<S>,
+    registry: &mut Registry<C>,
 ) -> Result<(), Fail> {
     expect_told(rt, alloc, registry, KEPT)?;
     for is_comment in [false, true] {
@@ -116,10 +116,10 @@ fn expect_replies(
 }
 
 // The replies of one list are those of its rows.
-fn expect_list<S: Alter + Drop>(
+fn expect_list<C: WritableDatabase + Drop>(
     rt: &impl Abort,
     alloc: Global,
-    registry: &mut Registry<S>,
+    registry: &mut Registry<C>,
     rows: &str,
 ) -> Result<(), Fail> {
     let commands = commands_of(alloc, rows)?;

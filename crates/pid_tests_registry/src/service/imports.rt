@@ -3,15 +3,15 @@ use crate::service::asking::{expect_line, expect_told, imported_from, new_in_mem
 use pid_doubles::{FaultyInput, FaultyOutput};
 use pid_ident::WriteFault;
 use pid_service::{ExportFault, Registry};
-use sqlite::Alter;
+use pid_tables::WritableDatabase;
 use std::alloc::Global;
 use std::process::Abort;
 use std::test::Fail;
 
-fn expect_unchanged<S: Alter + Drop>(
+fn expect_unchanged<C: WritableDatabase + Drop>(
     rt: &impl Abort,
     alloc: Global,
-    registry: &mut Registry<S>,
+    registry: &mut Registry<C>,
     row: (&str, &str),
     reads: usize,
 ) -> Result<(), Fail> {
@@ -40,10 +40,10 @@ fn a_failing_input_changes_nothing(rt: HostRuntime) -> Result<(), Fail> {
 
 // A file of 9,000 bytes is read to its end, by three reads and the one that finds the end, whatever
 // the import comes to.
-fn expect_emptied<S: Alter + Drop>(
+fn expect_emptied<C: WritableDatabase + Drop>(
     rt: &impl Abort,
     alloc: Global,
-    registry: &mut Registry<S>,
+    registry: &mut Registry<C>,
     file: &str,
     row: (&str, &str),
 ) -> Result<(), Fail> {
@@ -86,10 +86,10 @@ const TEXT: &[u8] =
     b"# PCI ID registry\n8086  Intel\n\t1237  440FX\nC 01  Mass\nS 8086\n\t1100  Board\n";
 
 // What was written after so many good writes of one byte is a prefix.
-fn expect_prefix<S: Alter + Drop>(
+fn expect_prefix<C: WritableDatabase + Drop>(
     rt: &impl Abort,
     alloc: Global,
-    registry: &mut Registry<S>,
+    registry: &mut Registry<C>,
     writes: usize,
 ) {
     let mut output = FaultyOutput::new(alloc, 1).failing_after(writes as u64, WriteFault::Zero);
@@ -98,10 +98,10 @@ fn expect_prefix<S: Alter + Drop>(
     assert!(rt; output.taken.len() == writes && TEXT.starts_with(output.taken.as_slice()));
 }
 
-fn expect_prefixes<S: Alter + Drop>(
+fn expect_prefixes<C: WritableDatabase + Drop>(
     rt: &impl Abort,
     alloc: Global,
-    registry: &mut Registry<S>,
+    registry: &mut Registry<C>,
 ) -> Result<(), Fail> {
     expect_told(rt, alloc, registry, ITEMS)?;
     for writes in 0..TEXT.len() {

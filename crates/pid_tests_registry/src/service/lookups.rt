@@ -1,7 +1,7 @@
 //! What a registry keeps of the names that look-ups have read.
 use crate::service::asking::{expect_told, new_in_memory, told};
 use pid_service::Registry;
-use sqlite::Alter;
+use pid_tables::WritableDatabase;
 use std::alloc::Global;
 use std::process::Abort;
 use std::test::Fail;
@@ -25,8 +25,8 @@ const THIRD: &str = "\
 lookup flags=1&vendor=8086 | Third
 ";
 
-fn look_up<S: Alter + Drop>(
-    registry: &mut Registry<S>,
+fn look_up<C: WritableDatabase + Drop>(
+    registry: &mut Registry<C>,
     alloc: Global,
     vendor: u32,
 ) -> Result<(), Fail> {
@@ -35,10 +35,10 @@ fn look_up<S: Alter + Drop>(
     Ok(())
 }
 
-fn expect_kept<S: Alter + Drop>(
+fn expect_kept<C: WritableDatabase + Drop>(
     rt: &impl Abort,
     alloc: Global,
-    registry: &mut Registry<S>,
+    registry: &mut Registry<C>,
 ) -> Result<(), Fail> {
     assert!(rt; registry.cached() == 0);
     expect_told(rt, alloc, registry, PAIRS)?;
@@ -51,10 +51,10 @@ fn expect_kept<S: Alter + Drop>(
 }
 
 // Names that are kept do not grow without end.
-fn expect_limit<S: Alter + Drop>(
+fn expect_limit<C: WritableDatabase + Drop>(
     rt: &impl Abort,
     alloc: Global,
-    registry: &mut Registry<S>,
+    registry: &mut Registry<C>,
 ) -> Result<(), Fail> {
     for number in 0..2_000u32 {
         look_up(registry, alloc, number)?;

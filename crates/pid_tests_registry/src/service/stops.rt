@@ -5,7 +5,7 @@ use crate::service::asking::{expect_line, expect_told, opened, owned, told};
 use crate::service::rows::OLDER;
 use pid_moderation::Refusal;
 use pid_service::{Registry, Step, migrate, open};
-use pid_tables::TableFault;
+use pid_tables::{TableFault, WritableDatabase};
 use sqlite::{Alter, Connection, FileStore, Files, Options};
 use sqlite_disk::{Crash, Disk, Fuse, Memory};
 use std::alloc::Global;
@@ -143,8 +143,8 @@ pub(crate) fn is_answered(line: &str) -> bool {
 }
 
 // The answer to a row, if neither memory nor the store refuses it.
-fn answer_to<S: Alter + Drop>(
-    registry: &mut Registry<S>,
+fn answer_to<C: WritableDatabase + Drop>(
+    registry: &mut Registry<C>,
     alloc: Global,
     row: &str,
 ) -> Result<String, Fail> {
@@ -157,7 +157,10 @@ fn answer_to<S: Alter + Drop>(
 }
 
 // What a registry shows: its items, its first submission, what is pending, and the numbers of its changes.
-fn shown<S: Alter + Drop>(registry: &mut Registry<S>, alloc: Global) -> Result<String, Fail> {
+fn shown<C: WritableDatabase + Drop>(
+    registry: &mut Registry<C>,
+    alloc: Global,
+) -> Result<String, Fail> {
     let mut all = String::new(alloc);
     for row in ["export", "submission 1", "pending 0", "changes 0"] {
         all.push_str(answer_to(registry, alloc, row)?.as_str())?;
@@ -187,8 +190,8 @@ fn no_answer(alloc: Global) -> Result<Whole, Fail> {
     Ok(answer_alone(alloc, owned(alloc, NOT_TOLD)?))
 }
 
-fn asked_whole<S: Alter + Drop>(
-    registry: &mut Registry<S>,
+fn asked_whole<C: WritableDatabase + Drop>(
+    registry: &mut Registry<C>,
     alloc: Global,
     row: &str,
 ) -> Result<Whole, Fail> {
@@ -202,11 +205,11 @@ fn asked_whole<S: Alter + Drop>(
     })
 }
 
-fn whole_row<S: Alter + Drop>(
+fn whole_row<C: WritableDatabase + Drop>(
     alloc: Global,
-    conn: Connection<S>,
+    conn: C,
     row: &str,
-) -> Result<(Whole, Connection<S>), Fail> {
+) -> Result<(Whole, C), Fail> {
     let mut registry = opened(alloc, conn)?;
     let whole = asked_whole(&mut registry, alloc, row)?;
     Ok((whole, registry.close()))
@@ -244,11 +247,7 @@ fn expect_passing(rt: &impl Abort, fault: TableFault) {
 }
 
 // Opens the connection that a failed opening or a failed registry handed back. It may be shut, but nothing is damaged.
-fn opened_again<S: Alter + Drop>(
-    rt: &impl Abort,
-    alloc: Global,
-    conn: Connection<S>,
-) -> Connection<S> {
+fn opened_again<C: WritableDatabase + Drop>(rt: &impl Abort, alloc: Global, conn: C) -> C {
     assert!(rt; conn.is_autocommit(), "a transaction is left");
     match open(alloc, conn) {
         Ok(registry) => registry.close(),
@@ -260,7 +259,7 @@ fn opened_again<S: Alter + Drop>(
 }
 
 // Moves the tables. If it failed, memory ran out or the store failed.
-fn migrated<S: Alter + Drop>(rt: &impl Abort, alloc: Global, conn: Connection<S>) -> Connection<S> {
+fn migrated<C: WritableDatabase + Drop>(rt: &impl Abort, alloc: Global, conn: C) -> C {
     match migrate(alloc, conn) {
         Ok((conn, step)) => {
             assert!(rt; step == Step::Moved);
@@ -274,10 +273,10 @@ fn migrated<S: Alter + Drop>(rt: &impl Abort, alloc: Global, conn: Connection<S>
 }
 
 // The answer of a registry to the last row. One that has failed then says so.
-fn last_answer<S: Alter + Drop>(
+fn last_answer<C: WritableDatabase + Drop>(
     rt: &impl Abort,
     alloc: Global,
-    registry: &mut Registry<S>,
+    registry: &mut Registry<C>,
     last: &str,
 ) -> Result<Whole, Fail> {
     let line = told(registry, alloc, last)?;
@@ -290,12 +289,12 @@ fn last_answer<S: Alter + Drop>(
 
 // What the last row is answered, and the connection after it, which can be opened again if the
 // registry has failed.
-fn answer_over<S: Alter + Drop>(
+fn answer_over<C: WritableDatabase + Drop>(
     rt: &impl Abort,
     alloc: Global,
-    registry: Registry<S>,
+    registry: Registry<C>,
     last: &str,
-) -> Result<(Whole, Connection<S>), Fail> {
+) -> Result<(Whole, C), Fail> {
     let mut registry = registry;
     let answer = last_answer(rt, alloc, &mut registry, last)?;
     if registry.is_live() {
@@ -307,12 +306,12 @@ fn answer_over<S: Alter + Drop>(
 
 // The same of a connection. `migrate` moves the tables and is answered nothing, as is a row of a
 // registry that was not opened.
-fn answered<S: Alter + Drop>(
+fn answered<C: WritableDatabase + Drop>(
     rt: &impl Abort,
     alloc: Global,
-    conn: Connection<S>,
+    conn: C,
     last: &str,
-) -> Result<(Whole, Connection<S>), Fail> {
+) -> Result<(Whole, C), Fail> {
     assert!(rt; conn.is_autocommit(), "a transaction is left");
     if last == "migrate" {
         return Ok((no_answer(alloc)?, migrated(rt, alloc, conn)));
@@ -359,14 +358,14 @@ fn expect_either(rt: &impl Abort, found: &str, last: &str, line: &str, whole: &W
 
 // Opened again, the registry is as before the last row or after it; sent again, the row is answered
 // as without a stop.
-fn expect_kept<S: Alter + Drop>(
+fn expect_kept<C: WritableDatabase + Drop>(
     rt: &impl Abort,
     alloc: Global,
-    conn: Connection<S>,
+    conn: C,
     last: &str,
     line: &str,
     whole: &Whole,
-) -> Result<(Whole, Connection<S>), Fail> {
+) -> Result<(Whole, C), Fail> {
     let mut registry = opened(alloc, conn)?;
     let again = asked_whole(&mut registry, alloc, last)?;
     expect_either(rt, again.before.as_str(), last, line, whole);

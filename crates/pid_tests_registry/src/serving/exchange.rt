@@ -4,14 +4,15 @@ use pid_http::serve_stream;
 use pid_http_stream::Served;
 use pid_ident::Input;
 use pid_service::{Registry, open};
-use sqlite::{Alter, Connection, MemStore};
+use pid_tables::WritableDatabase;
+use sqlite::{Connection, MemStore};
 use std::alloc::Global;
 use std::test::Fail;
 
 // More reads than any stream of these tests takes.
 const TURNS: u64 = 100_000;
 
-fn new_in_memory(alloc: Global) -> Result<Registry<MemStore>, Fail> {
+fn new_in_memory(alloc: Global) -> Result<Registry<Connection<MemStore>>, Fail> {
     let conn = Connection::open_in_memory(alloc)?;
     if !conn.is_autocommit() {
         return Err("a transaction is left")?;
@@ -41,9 +42,9 @@ pub(crate) fn serve_new<I: Input>(
     Ok(served_over(alloc, &mut registry, input, output, asked))
 }
 
-fn served_over<S: Alter + Drop, I: Input>(
+fn served_over<C: WritableDatabase + Drop, I: Input>(
     alloc: Global,
-    registry: &mut Registry<S>,
+    registry: &mut Registry<C>,
     input: &mut I,
     output: &mut FaultyOutput,
     asked: &[u8],

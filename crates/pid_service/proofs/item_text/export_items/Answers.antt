@@ -3,7 +3,7 @@ use Rattle.std.specs.Io.KnownBytes.{Appends}
 use Rattle.pid_tables.specs.declared.lists.walk.EachEnd.{EachEnd}
 use Rattle.pid_tables.specs.declared.lists.walk.EachEnd.TheVariants as ends
 use Rattle.pid_tables.proofs.OfCheck.Asking.{nothing_read}
-use Rattle.pid_service.proofs.Words.{ended, header, state, WriteFault, WritesItems}
+use Rattle.pid_service.proofs.Words.{ended, header, WriteFault, WritesItems}
 use Rattle.pid_service.proofs.WalkEnds.{exported, fault_told, header_stopped, walk_same}
 use Rattle.pid_service.proofs.item_text.export_items.Goals as goal
 
@@ -12,7 +12,7 @@ same_end f told is = cc
 
 pub returns-in-Err : goal.returns-in-Err
 returns-in-Err g c = record {
-  rests = nothing_read (state g.S.Store c.args.tables.now.conn) c.args.tables.now.settled;
+  rests = nothing_read (g.C.Database.state c.args.tables.now.conn) c.args.tables.now.settled;
   printed = λ clean v rest. header_stopped _ _ v.items c.in-Err.ensures.sent;
   fault = λ f is. c.in-Err.ensures.fault ∙ ap Some (same_end c.in-Err.fault f is);
   caused = λ clean v rest readable. tt;

@@ -3,14 +3,14 @@ use Rattle.pid_tables.proofs.OfCheck.Asking.{nothing_read}
 use Rattle.pid_tables.proofs.OfRows.CauseLemmas.{caused_later, passed_on}
 use Rattle.pid_tables.proofs.OfRows.OnlyReading.{reads_then}
 use Rattle.std.proofs.lemmas.List.{length-map}
-use Rattle.pid_service.proofs.Words.{HoldsPending, IsCaused, IsReadable, numbers_pending, pending_above, pending_number, state, told_of}
+use Rattle.pid_service.proofs.Words.{HoldsPending, IsCaused, IsReadable, numbers_pending, pending_above, pending_number, told_of}
 use Rattle.pid_service.proofs.PendingNumbers.{last_count, next_count, pending_next}
 use Rattle.pid_service.proofs.pending_numbers.count_pending.Goals as goal
 
 -- the numbers are kept
 pub returns-in-Ok : goal.returns-in-Ok
 returns-in-Ok g c = record {
-  rests = nothing_read (state g.S.Store c.args.tables.now.conn) c.args.tables.now.settled;
+  rests = nothing_read (g.C.Database.state c.args.tables.now.conn) c.args.tables.now.settled;
   told = λ clean v rest holds.
       let held : c.in-Some.numbers.items ≡ numbers_pending v = subst (λ o. HoldsPending o v) c.in-Some.is holds in
       let many : c.in-Ok.count ≡ length c.in-Some.numbers.items = search rules in
@@ -18,16 +18,16 @@ returns-in-Ok g c = record {
 }
 
 pub returns-in-Err : goal.returns-in-Err
-returns-in-Err g c = record { rests = nothing_read (state g.S.Store c.args.tables.now.conn) c.args.tables.now.settled; told = λ clean v rest readable. tt }
+returns-in-Err g c = record { rests = nothing_read (g.C.Database.state c.args.tables.now.conn) c.args.tables.now.settled; told = λ clean v rest readable. tt }
 
 -- a page after the other
 pub returns-in_err-page : goal.returns-in_err-page
 returns-in_err-page g c =
     let one = c.in_err-page.ensures in
     let before = c.loop.invariant in
-    let old = state g.S.Store c.args.tables.now.conn in
-    let mid = state g.S.Store c.loop.tables.conn in
-    let new = state g.S.Store c.pending_page.new.self.conn in
+    let old = g.C.Database.state c.args.tables.now.conn in
+    let mid = g.C.Database.state c.loop.tables.conn in
+    let new = g.C.Database.state c.pending_page.new.self.conn in
     record {
       rests = reads_then _ _ _ before.0 one.rests;
       told = λ clean v rest.

@@ -1,7 +1,7 @@
 use Rattle.std.proofs.Common.{◌<◌, ◌++◌, map, length, ap, ◌∙◌, rules}
 use Rattle.pid_tables.proofs.OfRows.CauseLemmas.{caused_later, passed_on}
 use Rattle.pid_tables.proofs.OfRows.OnlyReading.{reads_then}
-use Rattle.pid_service.proofs.Words.{IsCaused, IsReadable, state, told_of}
+use Rattle.pid_service.proofs.Words.{IsCaused, IsReadable, told_of}
 use Rattle.pid_service.proofs.PendingNumbers.{last_page, next_page, pending_next, pending_past}
 use Rattle.pid_service.proofs.pending_numbers.read_pending_numbers.Goals as goal
 
@@ -9,9 +9,9 @@ pub returns-in_err-page : goal.returns-in_err-page
 returns-in_err-page g c =
     let one = c.in_err-page.ensures in
     let before = c.loop.invariant in
-    let old = state g.S.Store c.args.tables.now.conn in
-    let mid = state g.S.Store c.loop.tables.conn in
-    let new = state g.S.Store c.pending_page.new.self.conn in
+    let old = g.C.Database.state c.args.tables.now.conn in
+    let mid = g.C.Database.state c.loop.tables.conn in
+    let new = g.C.Database.state c.pending_page.new.self.conn in
     record {
       rests = reads_then _ _ _ before.0 one.rests;
       told = λ clean v rest.

@@ -6,5 +6,5 @@ use Rattle.pid_service.proofs.pending_numbers.read_pending_numbers.Given as goal
 
 abbrev pub invariant-loop : goal.invariant-loop
 invariant-loop g l =
-    OnlyReads g.S.Store l.initial.tables.conn l.tables.conn
-    × (HasCleanDisk g.S.Store l.tables.conn → (v : Views) → AtRest g.S.Store l.initial.tables.conn v → l.numbers.items ++ pending_past l.after v ≡ numbers_pending v)
+    OnlyReads g.C.Database.state l.initial.tables.conn l.tables.conn
+    × (HasCleanDisk g.C.Database.state l.tables.conn → (v : Views) → AtRest g.C.Database.state l.initial.tables.conn v → l.numbers.items ++ pending_past l.after v ≡ numbers_pending v)

@@ -6,23 +6,23 @@ use Rattle.pid_service.proofs.registry_status.status_by.Goals as goal
 
 pub returns-in_err-accounts : goal.returns-in_err-accounts
 returns-in_err-accounts g c =
-    faults_after g.S.Store c.args.tables.now.conn c.count_pending.new.tables.conn c.count_accounts.new.tables.conn c.in_err-accounts.field-0.0 c.from_residual-in_err-accounts.result _ c.in_ok-pending.ensures.rests c.in_err-accounts.ensures.rests
+    faults_after g.C.Database c.args.tables.now.conn c.count_pending.new.tables.conn c.count_accounts.new.tables.conn c.in_err-accounts.field-0.0 c.from_residual-in_err-accounts.result _ c.in_ok-pending.ensures.rests c.in_err-accounts.ensures.rests
     (λ clean v rest readable. c.in_err-accounts.ensures.told clean v rest readable) c.from_residual-in_err-accounts.ensures.1
 
 pub returns-in_err-items : goal.returns-in_err-items
 returns-in_err-items g c =
-    faults_after g.S.Store c.args.tables.now.conn c.count_accounts.new.tables.conn c.items.new.self.conn c.in_err-items.field-0.0 c.from_residual-in_err-items.result _ (reads_then _ _ _ c.in_ok-pending.ensures.rests c.in_ok-accounts.ensures.rests)
+    faults_after g.C.Database c.args.tables.now.conn c.count_accounts.new.tables.conn c.items.new.self.conn c.in_err-items.field-0.0 c.from_residual-in_err-items.result _ (reads_then _ _ _ c.in_ok-pending.ensures.rests c.in_ok-accounts.ensures.rests)
     c.in_err-items.ensures.rests (λ clean v rest readable. c.in_err-items.ensures.told clean v rest readable) c.from_residual-in_err-items.ensures.1
 
 pub returns-in_err-revision : goal.returns-in_err-revision
 returns-in_err-revision g c =
-    faults_after g.S.Store c.args.tables.now.conn c.items.new.self.conn c.revision.new.self.conn c.in_err-revision.field-0.0 c.from_residual-in_err-revision.result _
+    faults_after g.C.Database c.args.tables.now.conn c.items.new.self.conn c.revision.new.self.conn c.in_err-revision.field-0.0 c.from_residual-in_err-revision.result _
     (reads_then _ _ _ (reads_then _ _ _ c.in_ok-pending.ensures.rests c.in_ok-accounts.ensures.rests) c.in_ok-items.ensures.rests) c.in_err-revision.ensures.rests
     (λ clean v rest readable. c.in_err-revision.ensures.told clean v rest readable) c.from_residual-in_err-revision.ensures.1
 
 pub returns-in_err-submissions : goal.returns-in_err-submissions
 returns-in_err-submissions g c =
-    faults_after g.S.Store c.args.tables.now.conn c.revision.new.self.conn c.submissions.new.self.conn c.in_err-submissions.field-0.0 c.from_residual-in_err-submissions.result _
+    faults_after g.C.Database c.args.tables.now.conn c.revision.new.self.conn c.submissions.new.self.conn c.in_err-submissions.field-0.0 c.from_residual-in_err-submissions.result _
     (reads_then _ _ _ (reads_then _ _ _ (reads_then _ _ _ c.in_ok-pending.ensures.rests c.in_ok-accounts.ensures.rests) c.in_ok-items.ensures.rests) c.in_ok-revision.ensures.rests) c.in_err-submissions.ensures.rests
     (λ clean v rest readable. c.in_err-submissions.ensures.told clean v rest readable) c.from_residual-in_err-submissions.ensures.1
 

@@ -3,8 +3,8 @@ use Rattle.pid_service.proofs.sessions.first_openings_show_what_is_there.Goals a
 
 pub returns : goal.returns
 returns g c = record {
-  bare = bare_shows_none g.S.Store (λ conn. g.met.S.Store.settled conn.store);
+  bare = bare_shows_none g.C.Database (λ conn. g.met.C.Database.durable conn);
   new = none_reached;
-  there = shown_rests g.S.Store (λ conn. g.met.S.Store.settled conn.store);
-  opened = first_shows g.S.Store;
+  there = shown_rests g.C.Database (λ conn. g.met.C.Database.durable conn);
+  opened = first_shows g.C.Database;
 }

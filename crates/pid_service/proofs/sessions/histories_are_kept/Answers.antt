@@ -3,9 +3,9 @@ use Rattle.pid_service.proofs.sessions.histories_are_kept.Goals as goal
 
 pub returns : goal.returns
 returns g c = record {
-  moved = move_shows g.S.Store;
-  migrated = move_keeps g.S.Store;
-  unopened = unopened_keeps g.S.Store;
-  unmoved_for = move_only_store g.S.Store;
-  unopened_for = unopened_only_store g.S.Store;
+  moved = move_shows g.C.Database;
+  migrated = move_keeps g.C.Database;
+  unopened = unopened_keeps g.C.Database;
+  unmoved_for = move_only_store g.C.Database;
+  unopened_for = unopened_only_store g.C.Database;
 }

@@ -5,4 +5,4 @@ use Rattle.pid_service.proofs.sessions.migrations_find_histories.Goals as goal
 
 pub returns : goal.returns
 returns g c conn v h opens shows same =
-    taken_there g.S.Store (λ conn. g.met.S.Store.settled conn.store) conn v h (taken_bare h (taken_revision h) (taken_since h)) (same_views (accepted_count h) h) opens shows same
+    taken_there g.C.Database (λ conn. g.met.C.Database.durable conn) conn v h (taken_bare h (taken_revision h) (taken_since h)) (same_views (accepted_count h) h) opens shows same

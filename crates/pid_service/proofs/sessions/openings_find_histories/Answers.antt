@@ -3,8 +3,8 @@ use Rattle.pid_service.proofs.sessions.openings_find_histories.Goals as goal
 
 pub returns : goal.returns
 returns g c = record {
-  stops = stop_keeps g.S.Store g.T.Store (λ conn. g.met.T.Store.settled conn.store);
-  stopped = stop_finds g.S.Store g.T.Store (λ conn. g.met.T.Store.settled conn.store);
-  closed = close_finds g.S.Store;
-  opened = opening_finds g.S.Store g.T.Store;
+  stops = stop_keeps g.C.Database g.D.Database (λ conn. g.met.D.Database.durable conn);
+  stopped = stop_finds g.C.Database g.D.Database (λ conn. g.met.D.Database.durable conn);
+  closed = close_finds g.C.Database;
+  opened = opening_finds g.C.Database g.D.Database;
 }

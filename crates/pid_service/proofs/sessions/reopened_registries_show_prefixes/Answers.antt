@@ -2,4 +2,4 @@ use Rattle.pid_service.proofs.Prefixes.{prefixes_shown}
 use Rattle.pid_service.proofs.sessions.reopened_registries_show_prefixes.Goals as goal
 
 pub returns : goal.returns
-returns g c = prefixes_shown g.S.Store g.T.Store
+returns g c = prefixes_shown g.C.Database g.D.Database

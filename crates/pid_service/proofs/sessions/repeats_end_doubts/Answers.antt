@@ -4,4 +4,4 @@ use Rattle.pid_service.specs.Registries.{is_live}
 use Rattle.pid_service.proofs.sessions.repeats_end_doubts.Goals as goal
 
 pub returns : goal.returns
-returns g c ended opened between last h asked key calls result = sent_again (showing g.S.Store) (showing g.T.Store) ended opened between last h asked key calls result (is_live last)
+returns g c ended opened between last h asked key calls result = sent_again (showing g.C.Database) (showing g.D.Database) ended opened between last h asked key calls result (is_live last)

@@ -1,8 +1,7 @@
 use Rattle.std.proofs.Common.{sym, subst, MatchResult}
-use Rattle.sqlite.specs.Held.{state}
 use Rattle.pid_moderation.specs.Items.{name_at}
 use Rattle.pid_tables.specs.Rows.Faults.{IsMemoryOrStore}
-use Rattle.pid_tables.specs.Rows.Shows.{ShowsCounting}
+use Rattle.pid_tables.specs.Rows.Steps.Shows.{ShowsCounting}
 use Rattle.pid_tables.proofs.ApplyLemmas.{none_there}
 use Rattle.pid_tables.proofs.ChangeLemmas.{removed}
 use Rattle.pid_tables.proofs.batch.edit_item.Goals as goal
@@ -12,7 +11,7 @@ returns-in-Remove g c = record {
   same_reference = c.remove_item.ensures.same_reference;
   goes = c.remove_item.ensures.goes;
   shows = rw c.in-Remove.is (λ clean inside counts v shows fits.
-      subst (λ w. MatchResult c.remove_item.result (λ _. ShowsCounting counts (state g.S.Store c.remove_item.new.tx.conn.now).now w) IsMemoryOrStore) (sym (removed c.args.revision c.args.path.now v)) (c.remove_item.ensures.shows clean inside counts v shows tt));
+      subst (λ w. MatchResult c.remove_item.result (λ _. ShowsCounting counts (g.B.Batch.batch.state c.remove_item.new.tx).now w) IsMemoryOrStore) (sym (removed c.args.revision c.args.path.now v)) (c.remove_item.ensures.shows clean inside counts v shows tt));
 }
 
 pub returns-in-Add : goal.returns-in-Add

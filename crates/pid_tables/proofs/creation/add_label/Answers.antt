@@ -1,5 +1,4 @@
 use Rattle.std.proofs.Common.{[], ◌∷◌}
-use Rattle.sqlite.specs.Held.{state}
 use Rattle.sqlite.specs.declared.types.Value.TheVariants.{Text}
 use Rattle.pid_tables.specs.Rows.TableRows.{number}
 use Rattle.pid_tables.specs.Statements.{new_label_text}
@@ -13,7 +12,7 @@ use Rattle.pid_tables.proofs.creation.add_label.Goals as goal
 
 pub returns-clause-added : goal.returns-clause-added
 returns-clause-added g c clean inside m has none =
-    led c.write_one.result (label_added (state g.S.Store c.args.tx.now.conn.now) (state g.S.Store c.write_one.new.tx.conn.now) m c.args.label.now c.args.value has none)
+    led c.write_one.result (label_added (g.B.Batch.batch.state c.args.tx.now) (g.B.Batch.batch.state c.write_one.new.self) m c.args.label.now c.args.value has none)
     (rw (c.to_sql-label.ensures, c.to_sql-value.ensures) at (c.write_one.ensures.runs.ran clean inside))
     (c.write_one.ensures.runs.only_store clean pid_schema (λ opened. has.schema) (insert_writes (insert_meta_is Two)))
 
@@ -22,6 +21,6 @@ returns-clause-works g c = record {
   same_reference = c.write_one.ensures.same_reference;
   goes = c.write_one.ensures.goes;
   carried = λ clean inside.
-      carried_one g.S.Store new_label_text (Text c.args.label.now ∷ number c.args.value ∷ []) c.args.tx.now.conn.now c.write_one.new.tx.conn.now c.write_one.result
+      carried_one g.B.Batch.batch.state new_label_text (Text c.args.label.now ∷ number c.args.value ∷ []) c.args.tx.now c.write_one.new.self c.write_one.result
       (rw (c.to_sql-label.ensures, c.to_sql-value.ensures) at (c.write_one.ensures.runs.ran clean inside));
 }

@@ -1,5 +1,4 @@
 use Rattle.std.proofs.Common.{[], ◌∷◌, ◌++◌, codes, refl, ◌∙◌}
-use Rattle.sqlite.specs.Held.{state}
 use Rattle.sqlite.specs.declared.types.Value.TheVariants.{Text}
 use Rattle.pid_moderation.specs.declared.rank.Rank.TheVariants.{Administrator}
 use Rattle.pid_tables.specs.declared.rows.schema_version.Version.TheVariants.{Two}
@@ -25,43 +24,43 @@ returns g c = record {
       record {
         same_reference = c.write_one.ensures.same_reference ∙ (c.add_labels.ensures.works.same_reference ∙ c.make_tables.ensures.works.same_reference);
         goes =
-            let b = state g.S.Store c.make_tables.new.tx.conn.now in
-            let e = state g.S.Store c.write_one.new.tx.conn.now in
-            goes_then (state g.S.Store c.args.tx.now.conn.now) b e _ c.write_one.result c.in_ok-make_tables.ensures.works.goes
-            (goes_then b (state g.S.Store c.add_labels.new.tx.conn.now) e _ c.write_one.result c.in_ok-add_labels.ensures.works.goes c.write_one.ensures.goes);
+            let b = g.B.Batch.batch.state c.make_tables.new.tx in
+            let e = g.B.Batch.batch.state c.write_one.new.self in
+            goes_then (g.B.Batch.batch.state c.args.tx.now) b e _ c.write_one.result c.in_ok-make_tables.ensures.works.goes
+            (goes_then b (g.B.Batch.batch.state c.add_labels.new.tx) e _ c.write_one.result c.in_ok-add_labels.ensures.works.goes c.write_one.ensures.goes);
         carried = λ clean inside.
-            let a = c.args.tx.now.conn.now in
-            let b = c.make_tables.new.tx.conn.now in
-            let d = c.add_labels.new.tx.conn.now in
-            let e = c.write_one.new.tx.conn.now in
-            let second = earlier (state g.S.Store d) (state g.S.Store e) c.write_one.ensures.goes.survives clean in
-            let first = earlier (state g.S.Store b) (state g.S.Store d) c.add_labels.ensures.works.goes.survives second in
+            let a = c.args.tx.now in
+            let b = c.make_tables.new.tx in
+            let d = c.add_labels.new.tx in
+            let e = c.write_one.new.self in
+            let second = earlier (g.B.Batch.batch.state d) (g.B.Batch.batch.state e) c.write_one.ensures.goes.survives clean in
+            let first = earlier (g.B.Batch.batch.state b) (g.B.Batch.batch.state d) c.add_labels.ensures.works.goes.survives second in
             let one = c.in_ok-make_tables.ensures in
             let two = c.in_ok-add_labels.ensures in
             let within = (one.works.goes.going first inside).1 in
-            carried_then g.S.Store (all_statements ++ label_statements) (root_statement ∷ []) a d e c.write_one.result
-            (carried_both g.S.Store all_statements label_statements a b d (one.works.carried first inside) (two.works.carried second within))
-            (carried_one g.S.Store new_account_text (Text (codes "root") ∷ number 3 ∷ []) d e c.write_one.result
+            carried_then g.B.Batch.batch.state (all_statements ++ label_statements) (root_statement ∷ []) a d e c.write_one.result
+            (carried_both g.B.Batch.batch.state all_statements label_statements a b d (one.works.carried first inside) (two.works.carried second within))
+            (carried_one g.B.Batch.batch.state new_account_text (Text (codes "root") ∷ number 3 ∷ []) d e c.write_one.result
             (rw (c.to_sql-name.ensures, c.to_sql-rank.ensures, c.from.ensures, c.number.ensures) at (c.write_one.ensures.runs.ran clean (two.works.goes.going second within).1)));
       };
   filled = λ clean inside made.
-      let b = state g.S.Store c.make_tables.new.tx.conn.now in
-      let d = state g.S.Store c.add_labels.new.tx.conn.now in
-      let second = earlier d (state g.S.Store c.write_one.new.tx.conn.now) c.write_one.ensures.goes.survives clean in
+      let b = g.B.Batch.batch.state c.make_tables.new.tx in
+      let d = g.B.Batch.batch.state c.add_labels.new.tx in
+      let second = earlier d (g.B.Batch.batch.state c.write_one.new.self) c.write_one.ensures.goes.survives clean in
       let first = earlier b d c.add_labels.ensures.works.goes.survives second in
       let one = c.in_ok-make_tables.ensures in
       let two = c.in_ok-add_labels.ensures in
       let within = (one.works.goes.going first inside).1 in
       let has = two.added second within (all_made b.now (one.made first inside made)) in
       let shown = shows_nothing d.now has in
-      led c.write_one.result (account_added d (state g.S.Store c.write_one.new.tx.conn.now) _ nothing_yet shown (codes "root") Administrator refl)
+      led c.write_one.result (account_added d (g.B.Batch.batch.state c.write_one.new.self) _ nothing_yet shown (codes "root") Administrator refl)
       (rw (c.to_sql-name.ensures, c.to_sql-rank.ensures, c.from.ensures, c.number.ensures) at (c.write_one.ensures.runs.ran clean (two.works.goes.going second within).1))
       (c.write_one.ensures.runs.only_store clean pid_schema (λ opened. shown.schema) (insert_writes (insert_account_is Two)));
   never = λ clean inside. c.write_one.ensures.never;
   refused = λ clean inside met.
-      let b = state g.S.Store c.make_tables.new.tx.conn.now in
-      let d = state g.S.Store c.add_labels.new.tx.conn.now in
-      let second = earlier d (state g.S.Store c.write_one.new.tx.conn.now) c.write_one.ensures.goes.survives clean in
+      let b = g.B.Batch.batch.state c.make_tables.new.tx in
+      let d = g.B.Batch.batch.state c.add_labels.new.tx in
+      let second = earlier d (g.B.Batch.batch.state c.write_one.new.self) c.write_one.ensures.goes.survives clean in
       let first = earlier b d c.add_labels.ensures.works.goes.survives second in
       let one = c.in_ok-make_tables.ensures in
       absurd (none_met _ _ (one.takes first inside) (met (one.works.goes.was_open first (one.works.goes.going first inside).0)));
@@ -73,7 +72,7 @@ returns-in_err-make_tables g c = record {
       record {
         same_reference = c.make_tables.ensures.works.same_reference;
         goes =
-            goes_fault (state g.S.Store c.args.tx.now.conn.now) (state g.S.Store c.make_tables.new.tx.conn.now) _ c.from_residual.result c.from_residual.ensures.1 c.in_err-make_tables.ensures.works.goes;
+            goes_fault (g.B.Batch.batch.state c.args.tx.now) (g.B.Batch.batch.state c.make_tables.new.tx) _ c.from_residual.result c.from_residual.ensures.1 c.in_err-make_tables.ensures.works.goes;
         carried = λ clean inside. not_on_ok c.from_residual.result _ _ c.from_residual.ensures.1;
       };
   filled = λ clean inside made. passed_on c.from_residual.result _ _ IsMemoryOrStore c.from_residual.ensures.1 (c.in_err-make_tables.ensures.made clean inside made);
@@ -87,15 +86,15 @@ returns-in_err-add_labels g c = record {
       record {
         same_reference = c.add_labels.ensures.works.same_reference ∙ c.make_tables.ensures.works.same_reference;
         goes =
-            goes_fault_after (state g.S.Store c.args.tx.now.conn.now) (state g.S.Store c.make_tables.new.tx.conn.now) (state g.S.Store c.add_labels.new.tx.conn.now) _ _
+            goes_fault_after (g.B.Batch.batch.state c.args.tx.now) (g.B.Batch.batch.state c.make_tables.new.tx) (g.B.Batch.batch.state c.add_labels.new.tx) _ _
             c.from_residual-in_err-add_labels.result c.from_residual-in_err-add_labels.ensures.1 c.in_ok-make_tables.ensures.works.goes c.in_err-add_labels.ensures.works.goes;
         carried = λ clean inside. not_on_ok c.from_residual-in_err-add_labels.result _ _ c.from_residual-in_err-add_labels.ensures.1;
       };
-  filled = λ clean inside made. let b = state g.S.Store c.make_tables.new.tx.conn.now in let first = earlier b (state g.S.Store c.add_labels.new.tx.conn.now) c.add_labels.ensures.works.goes.survives clean in let one = c.in_ok-make_tables.ensures in passed_on c.from_residual-in_err-add_labels.result _ _ IsMemoryOrStore c.from_residual-in_err-add_labels.ensures.1 (c.in_err-add_labels.ensures.added clean (one.works.goes.going first inside).1 (all_made b.now (one.made first inside made)));
+  filled = λ clean inside made. let b = g.B.Batch.batch.state c.make_tables.new.tx in let first = earlier b (g.B.Batch.batch.state c.add_labels.new.tx) c.add_labels.ensures.works.goes.survives clean in let one = c.in_ok-make_tables.ensures in passed_on c.from_residual-in_err-add_labels.result _ _ IsMemoryOrStore c.from_residual-in_err-add_labels.ensures.1 (c.in_err-add_labels.ensures.added clean (one.works.goes.going first inside).1 (all_made b.now (one.made first inside made)));
   never = λ clean inside. passed_from c.from_residual-in_err-add_labels.result _ IsNotNewerSchema c.from_residual-in_err-add_labels.ensures.1 c.in_err-add_labels.ensures.never;
   refused = λ clean inside met.
-      let b = state g.S.Store c.make_tables.new.tx.conn.now in
-      let first = earlier b (state g.S.Store c.add_labels.new.tx.conn.now) c.add_labels.ensures.works.goes.survives clean in
+      let b = g.B.Batch.batch.state c.make_tables.new.tx in
+      let first = earlier b (g.B.Batch.batch.state c.add_labels.new.tx) c.add_labels.ensures.works.goes.survives clean in
       let one = c.in_ok-make_tables.ensures in
       absurd (none_met _ _ (one.takes first inside) (met (one.works.goes.was_open first (one.works.goes.going first inside).0)));
 }

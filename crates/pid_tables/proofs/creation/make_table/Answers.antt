@@ -1,5 +1,4 @@
 use Rattle.std.proofs.Common.{[]}
-use Rattle.sqlite.specs.Held.{state}
 use Rattle.pid_tables.proofs.Carrying.{carried_one}
 use Rattle.pid_tables.proofs.CreateLemmas.{made_one}
 use Rattle.pid_tables.proofs.MetLemmas.{taken}
@@ -11,8 +10,8 @@ returns g c = record {
       record {
         same_reference = c.write_one.ensures.same_reference;
         goes = c.write_one.ensures.goes;
-        carried = λ clean inside. carried_one g.S.Store c.args.sql.now [] c.args.tx.now.conn.now c.write_one.new.tx.conn.now c.write_one.result (c.write_one.ensures.runs.ran clean inside);
+        carried = λ clean inside. carried_one g.B.Batch.batch.state c.args.sql.now [] c.args.tx.now c.write_one.new.self c.write_one.result (c.write_one.ensures.runs.ran clean inside);
       };
-  made = λ before table it tables. made_one before c.args.sql.now table c.write_one.result (state g.S.Store c.args.tx.now.conn.now) (state g.S.Store c.write_one.new.tx.conn.now) it tables c.write_one.ensures.goes c.write_one.ensures.runs.ran c.write_one.ensures.runs.only_store;
-  takes = λ name it clean inside. taken c.args.sql.now name (state g.S.Store c.args.tx.now.conn.now) (state g.S.Store c.write_one.new.tx.conn.now) it c.write_one.result (c.write_one.ensures.runs.ran clean inside) c.write_one.ensures.never;
+  made = λ before table it tables. made_one before c.args.sql.now table c.write_one.result (g.B.Batch.batch.state c.args.tx.now) (g.B.Batch.batch.state c.write_one.new.self) it tables c.write_one.ensures.goes c.write_one.ensures.runs.ran c.write_one.ensures.runs.only_store;
+  takes = λ name it clean inside. taken c.args.sql.now name (g.B.Batch.batch.state c.args.tx.now) (g.B.Batch.batch.state c.write_one.new.self) it c.write_one.result (c.write_one.ensures.runs.ran clean inside) c.write_one.ensures.never;
 }

@@ -1,7 +1,6 @@
 use Rattle.std.proofs.Common.{inl, codes, refl, rules, sym, subst, ◌∙◌}
 use Rattle.std.proofs.lemmas.Bool.{true≢false, false≢true}
 use Rattle.sqlite.specs.Effect.{Database}
-use Rattle.sqlite.specs.Held.{state}
 use Rattle.pid_tables.specs.Rows.Faults.{IsMemoryOrStore}
 use Rattle.pid_tables.specs.Rows.LabelRows.{ExplainsNumber}
 use Rattle.pid_tables.specs.Rows.Shows.{ShowsKeeping}
@@ -43,7 +42,7 @@ pub returns-in-Ok : goal.returns-in-Ok
 returns-in-Ok g c =
     let found = c.in_ok-has_some_table.ensures.found in
     let second = c.schema_number.ensures.reads.rests in
-    let db = (state g.S.Store c.has_some_table.new.tables.conn).now in
+    let db = (g.C.Database.state c.has_some_table.new.tables.conn).now in
     record {
       rests = reads_then _ _ _ c.has_some_table.ensures.reads.rests second;
       bare = λ clean none. absurd (none ((found.asked (second.clean clean)).0 c.if-not-branch.false));
@@ -60,7 +59,7 @@ pub returns-in-Err-Damaged : goal.returns-in-Err-Damaged
 returns-in-Err-Damaged g c =
     let found = c.in_ok-has_some_table.ensures.found in
     let second = c.schema_number.ensures.reads.rests in
-    let db = (state g.S.Store c.has_some_table.new.tables.conn).now in
+    let db = (g.C.Database.state c.has_some_table.new.tables.conn).now in
     record {
       rests = reads_then _ _ _ c.has_some_table.ensures.reads.rests second;
       bare = λ clean none. refl;

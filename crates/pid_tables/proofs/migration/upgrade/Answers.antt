@@ -1,5 +1,4 @@
 use Rattle.std.proofs.Common.{◌∙◌, Some, Ok, refl, sym, ap}
-use Rattle.sqlite.specs.Held.{state}
 use Rattle.pid_tables.proofs.OfCheck.Asking.{nothing_read}
 use Rattle.pid_tables.specs.Steps.Bringing.{step_for}
 use Rattle.pid_tables.specs.declared.migration.Step.TheVariants.{Already}
@@ -18,7 +17,7 @@ returns-in-Ok-clause-step g c = ap step_for (sym c.in-None.is)
 pub returns-in-Ok-clause-brings : goal.returns-in-Ok-clause-brings
 returns-in-Ok-clause-brings g c =
     let h = c.in-Ok.ensures in
-    as_none g.S.Store c.args.conn.now c.create.new.conn c.args.found _ c.in-None.is (record {
+    as_none g.C.Database.state c.args.conn.now c.create.new.self c.args.found _ c.in-None.is (record {
       carried = record { survives = h.statements.survives; done = h.statements.done };
       created = λ clean bare. h.makes.made bare;
       met = λ clean met. h.spares.refused clean met;
@@ -30,7 +29,7 @@ returns-in-Err-clause-at_once g c = let h = c.in-Err.ensures.at_once in record {
 pub returns-in-Err-clause-brings : goal.returns-in-Err-clause-brings
 returns-in-Err-clause-brings g c =
     let h = c.in-Err.ensures in
-    as_none g.S.Store c.args.conn.now c.create.new.conn c.args.found _ c.in-None.is (record {
+    as_none g.C.Database.state c.args.conn.now c.create.new.self c.args.found _ c.in-None.is (record {
       carried = record { survives = h.statements.survives; done = λ clean. tt };
       created = λ clean bare. (h.makes.only_store clean bare, h.makes.bare bare);
       met = λ clean met. (h.spares.refused clean met, h.spares.rests met);
@@ -50,9 +49,9 @@ returns-in-Ok-move_up-clause-step g c = ap step_for (sym (c.in-Some-One.is ∙ a
 pub returns-in-Ok-move_up-clause-brings : goal.returns-in-Ok-move_up-clause-brings
 returns-in-Ok-move_up-clause-brings g c =
     let h = c.in-Ok-move_up.ensures in
-    as_one g.S.Store c.args.conn.now c.move_up.new.conn c.args.found _ (c.in-Some-One.is ∙ ap Some (rw c.in-Some-One.is at c.in-Some-One.field-0-is)) (record {
+    as_one g.C.Database.state c.args.conn.now c.move_up.new.self c.args.found _ (c.in-Some-One.is ∙ ap Some (rw c.in-Some-One.is at c.in-Some-One.field-0-is)) (record {
       carried = record { survives = h.statements.survives; done = h.statements.done };
-      moved = λ clean v rest. h.moved v rest;
+      moved = λ clean v rest. h.moved.moved v rest;
     })
 
 pub returns-in-Err-move_up-clause-at_once : goal.returns-in-Err-move_up-clause-at_once
@@ -61,9 +60,9 @@ returns-in-Err-move_up-clause-at_once g c = let h = c.in-Err-move_up.ensures.at_
 pub returns-in-Err-move_up-clause-brings : goal.returns-in-Err-move_up-clause-brings
 returns-in-Err-move_up-clause-brings g c =
     let h = c.in-Err-move_up.ensures in
-    as_one g.S.Store c.args.conn.now c.move_up.new.conn c.args.found _ (c.in-Some-One.is ∙ ap Some (rw c.in-Some-One.is at c.in-Some-One.field-0-is)) (record {
+    as_one g.C.Database.state c.args.conn.now c.move_up.new.self c.args.found _ (c.in-Some-One.is ∙ ap Some (rw c.in-Some-One.is at c.in-Some-One.field-0-is)) (record {
       carried = record { survives = h.statements.survives; done = λ clean. tt };
-      moved = λ clean v rest. (h.only_store clean v rest, h.kept v rest);
+      moved = λ clean v rest. (h.moved.only_store clean v rest, h.moved.kept v rest);
     })
 
 pub returns-in-Err-move_up-clause-never : goal.returns-in-Err-move_up-clause-never
@@ -72,7 +71,7 @@ returns-in-Err-move_up-clause-never g c clean = c.in-Err-move_up.ensures.never c
 -- ---- schema 2: nothing is done
 
 pub returns-in-Some-Two-clause-at_once : goal.returns-in-Some-Two-clause-at_once
-returns-in-Some-Two-clause-at_once g c = let s = state g.S.Store c.args.conn.now in reads_at_once s s (Ok Already) (nothing_read s c.requires)
+returns-in-Some-Two-clause-at_once g c = let s = g.C.Database.state c.args.conn.now in reads_at_once s s (Ok Already) (nothing_read s c.requires)
 
 pub returns-in-Some-Two-clause-brings : goal.returns-in-Some-Two-clause-brings
-returns-in-Some-Two-clause-brings g c = as_two g.S.Store c.args.conn.now c.args.conn.now c.args.found _ (c.in-Some-Two.is ∙ ap Some (rw c.in-Some-Two.is at c.in-Some-Two.field-0-is)) refl
+returns-in-Some-Two-clause-brings g c = as_two g.C.Database.state c.args.conn.now c.args.conn.now c.args.found _ (c.in-Some-Two.is ∙ ap Some (rw c.in-Some-Two.is at c.in-Some-Two.field-0-is)) refl

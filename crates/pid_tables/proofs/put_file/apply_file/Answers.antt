@@ -1,9 +1,8 @@
 use Rattle.std.proofs.Common.{◌≡◌, ℕ, ◌+◌, refl, ap, subst, sym, ◌∙◌}
-use Rattle.sqlite.specs.Held.{state}
 use Rattle.pid_moderation.specs.Changes.{with_items, with_pairs}
 use Rattle.pid_moderation.specs.Items.{imported}
 use Rattle.pid_moderation.specs.Views.{Views, views_of}
-use Rattle.pid_tables.specs.Rows.Leaves.{Within, Written}
+use Rattle.pid_tables.specs.Rows.Steps.Within.{Within, Written}
 use Rattle.pid_tables.specs.Rows.Shows.{counts_of}
 use Rattle.pid_reader.specs.Lines.{lines_of}
 use Rattle.pid_reader.specs.Reading.{entries_of}
@@ -28,7 +27,7 @@ returns-in-Err g c = record {
 pub returns-in-Ok-applied : goal.returns-in-Ok-applied
 returns-in-Ok-applied g c = record {
   same_reference = c.apply-applied.ensures.same_reference;
-  clean = earlier (state g.S.Store c.args.batch.now.conn.now) (state g.S.Store c.apply-applied.new.batch.conn.now) c.apply-applied.ensures.survives;
+  clean = earlier (g.B.Batch.batch.state c.args.batch.now) (g.B.Batch.batch.state c.apply-applied.new.batch) c.apply-applied.ensures.survives;
   limit = c.apply-applied.ensures.survives.limit;
   holds = λ counts v w within. c.apply-applied.ensures.holds counts v w within;
   applied = λ h text n marked is open_ many was next within.
@@ -37,9 +36,9 @@ returns-in-Ok-applied g c = record {
       let judged = c.in-Ok.ensures.judged h text marked is open_ many was in
       let number : n ≡ v.revision + 1 = next_is h c.args.command.now c.args.facts.now n open_ next judged.0 in
       let put : put_in_turn n pairs v ≡ with_pairs pairs v = in_turn n pairs v (c.texts_read_to_files.ensures.entries text was.good).apart ∙ ap (λ (m : ℕ). with_items m (imported pairs v.items) v) number in
-      let begun = subst (λ (w : Views). Within (counts_of v) (state g.S.Store c.args.batch.now.conn.now) v w) put within in
+      let begun = subst (λ (w : Views). Within (counts_of v) (g.B.Batch.batch.state c.args.batch.now) v w) put within in
       let done = c.in-Ok-applied.ensures.applied (counts_of v) v (with_pairs pairs v) begun judged.4 judged.3 in
-      (judged.1, subst (λ (w : Views). Written (counts_of w) (state g.S.Store c.apply-applied.new.batch.conn.now) v w) (sym judged.2) done);
+      (judged.1, subst (λ (w : Views). Written (counts_of w) (g.B.Batch.batch.state c.apply-applied.new.batch) v w) (sym judged.2) done);
   reads = tt;
   alive = tt;
 }
@@ -47,7 +46,7 @@ returns-in-Ok-applied g c = record {
 pub returns-in-Err-applied : goal.returns-in-Err-applied
 returns-in-Err-applied g c = record {
   same_reference = c.apply-applied.ensures.same_reference;
-  clean = earlier (state g.S.Store c.args.batch.now.conn.now) (state g.S.Store c.apply-applied.new.batch.conn.now) c.apply-applied.ensures.survives;
+  clean = earlier (g.B.Batch.batch.state c.args.batch.now) (g.B.Batch.batch.state c.apply-applied.new.batch) c.apply-applied.ensures.survives;
   limit = c.apply-applied.ensures.survives.limit;
   holds = λ counts v w within. c.apply-applied.ensures.holds counts v w within;
   applied = λ h text n marked is open_ many was next within. c.refusal_of.ensures.fault;

@@ -1,5 +1,4 @@
 use Rattle.std.proofs.Common.{Ok, [], ◌∷◌, codes, refl, ◌∙◌}
-use Rattle.sqlite.specs.Held.{state}
 use Rattle.sqlite.specs.declared.types.Value.TheVariants.{Text}
 use Rattle.pid_tables.specs.Rows.Faults.{IsMemoryOrStore, IsNotNewerSchema}
 use Rattle.pid_tables.specs.Rows.Schema.{schema_of}
@@ -23,21 +22,21 @@ returns g c = record {
       record {
         same_reference = c.write_one-4.ensures.same_reference ∙ (c.write_one-3.ensures.same_reference ∙ (c.write_one-2.ensures.same_reference ∙ c.write_one.ensures.same_reference));
         goes =
-            let a = state g.S.Store c.write_one.new.tx.conn.now in
-            let b = state g.S.Store c.write_one-2.new.tx.conn.now in
-            let end = state g.S.Store c.write_one-4.new.tx.conn.now in
-            goes_then (state g.S.Store c.args.tx.now.conn.now) a end _ c.write_one-4.result c.in_ok-write_one.ensures.goes
+            let a = g.B.Batch.batch.state c.write_one.new.self in
+            let b = g.B.Batch.batch.state c.write_one-2.new.self in
+            let end = g.B.Batch.batch.state c.write_one-4.new.self in
+            goes_then (g.B.Batch.batch.state c.args.tx.now) a end _ c.write_one-4.result c.in_ok-write_one.ensures.goes
             (goes_then a b end _ c.write_one-4.result c.in_ok-write_one-2.ensures.goes
-            (goes_then b (state g.S.Store c.write_one-3.new.tx.conn.now) end _ c.write_one-4.result c.in_ok-write_one-3.ensures.goes c.write_one-4.ensures.goes));
+            (goes_then b (g.B.Batch.batch.state c.write_one-3.new.self) end _ c.write_one-4.result c.in_ok-write_one-3.ensures.goes c.write_one-4.ensures.goes));
         carried = λ clean inside.
-            let start = c.args.tx.now.conn.now in
-            let a = c.write_one.new.tx.conn.now in
-            let b = c.write_one-2.new.tx.conn.now in
-            let d = c.write_one-3.new.tx.conn.now in
-            let end = c.write_one-4.new.tx.conn.now in
-            let third = earlier (state g.S.Store d) (state g.S.Store end) c.write_one-4.ensures.goes.survives clean in
-            let second = earlier (state g.S.Store b) (state g.S.Store d) c.write_one-3.ensures.goes.survives third in
-            let first = earlier (state g.S.Store a) (state g.S.Store b) c.write_one-2.ensures.goes.survives second in
+            let start = c.args.tx.now in
+            let a = c.write_one.new.self in
+            let b = c.write_one-2.new.self in
+            let d = c.write_one-3.new.self in
+            let end = c.write_one-4.new.self in
+            let third = earlier (g.B.Batch.batch.state d) (g.B.Batch.batch.state end) c.write_one-4.ensures.goes.survives clean in
+            let second = earlier (g.B.Batch.batch.state b) (g.B.Batch.batch.state d) c.write_one-3.ensures.goes.survives third in
+            let first = earlier (g.B.Batch.batch.state a) (g.B.Batch.batch.state b) c.write_one-2.ensures.goes.survives second in
             let one = c.in_ok-write_one.ensures in
             let two = c.in_ok-write_one-2.ensures in
             let three = c.in_ok-write_one-3.ensures in
@@ -47,18 +46,18 @@ returns g c = record {
             let filled = two.runs.ran second in_one in
             let added = rw (c.to_sql-revision.ensures, c.to_sql-none.ensures) at (three.runs.ran third in_two) in
             let schema = Text (codes "schema") ∷ number 2 ∷ [] in
-            carried_then g.S.Store ((item_since_text, []) ∷ (item_since_rows_text, []) ∷ (new_label_text, Text (codes "revision") ∷ number 0 ∷ []) ∷ []) ((label_text, schema) ∷ []) start d end c.write_one-4.result
+            carried_then g.B.Batch.batch.state ((item_since_text, []) ∷ (item_since_rows_text, []) ∷ (new_label_text, Text (codes "revision") ∷ number 0 ∷ []) ∷ []) ((label_text, schema) ∷ []) start d end c.write_one-4.result
             (a, made.0, made.1, (b, filled.0, filled.1, (d, added.0, added.1, refl)))
-            (carried_one g.S.Store label_text schema d end c.write_one-4.result
+            (carried_one g.B.Batch.batch.state label_text schema d end c.write_one-4.result
             (rw (c.to_sql-schema.ensures, c.to_sql-latest.ensures) at (c.write_one-4.ensures.runs.ran clean (three.goes.going third in_two).1)));
       };
   never = c.write_one-4.ensures.never;
   shows = λ clean inside counts v shows.
-      let start = state g.S.Store c.args.tx.now.conn.now in
-      let a = state g.S.Store c.write_one.new.tx.conn.now in
-      let b = state g.S.Store c.write_one-2.new.tx.conn.now in
-      let d = state g.S.Store c.write_one-3.new.tx.conn.now in
-      let end = state g.S.Store c.write_one-4.new.tx.conn.now in
+      let start = g.B.Batch.batch.state c.args.tx.now in
+      let a = g.B.Batch.batch.state c.write_one.new.self in
+      let b = g.B.Batch.batch.state c.write_one-2.new.self in
+      let d = g.B.Batch.batch.state c.write_one-3.new.self in
+      let end = g.B.Batch.batch.state c.write_one-4.new.self in
       let third = earlier d end c.write_one-4.ensures.goes.survives clean in
       let second = earlier b d c.write_one-3.ensures.goes.survives third in
       let first = earlier a b c.write_one-2.ensures.goes.survives second in
@@ -81,7 +80,7 @@ returns-in_err-write_one g c = record {
       record {
         same_reference = c.write_one.ensures.same_reference;
         goes =
-            goes_fault (state g.S.Store c.args.tx.now.conn.now) (state g.S.Store c.write_one.new.tx.conn.now) _ c.from_residual.result c.from_residual.ensures.1 c.in_err-write_one.ensures.goes;
+            goes_fault (g.B.Batch.batch.state c.args.tx.now) (g.B.Batch.batch.state c.write_one.new.self) _ c.from_residual.result c.from_residual.ensures.1 c.in_err-write_one.ensures.goes;
         carried = λ clean inside. not_on_ok c.from_residual.result _ _ c.from_residual.ensures.1;
       };
   never = passed_on c.from_residual.result _ _ IsNotNewerSchema c.from_residual.ensures.1 c.in_err-write_one.ensures.never;
@@ -96,15 +95,15 @@ returns-in_err-write_one-2 g c = record {
       record {
         same_reference = c.write_one-2.ensures.same_reference ∙ c.write_one.ensures.same_reference;
         goes =
-            goes_fault_after (state g.S.Store c.args.tx.now.conn.now) (state g.S.Store c.write_one.new.tx.conn.now) (state g.S.Store c.write_one-2.new.tx.conn.now) _ _
+            goes_fault_after (g.B.Batch.batch.state c.args.tx.now) (g.B.Batch.batch.state c.write_one.new.self) (g.B.Batch.batch.state c.write_one-2.new.self) _ _
             c.from_residual-in_err-write_one-2.result c.from_residual-in_err-write_one-2.ensures.1 c.in_ok-write_one.ensures.goes c.in_err-write_one-2.ensures.goes;
         carried = λ clean inside. not_on_ok c.from_residual-in_err-write_one-2.result _ _ c.from_residual-in_err-write_one-2.ensures.1;
       };
   never = passed_on c.from_residual-in_err-write_one-2.result _ _ IsNotNewerSchema c.from_residual-in_err-write_one-2.ensures.1 c.in_err-write_one-2.ensures.never;
   shows = λ clean inside counts v shows.
-      let start = state g.S.Store c.args.tx.now.conn.now in
-      let a = state g.S.Store c.write_one.new.tx.conn.now in
-      let first = earlier a (state g.S.Store c.write_one-2.new.tx.conn.now) c.write_one-2.ensures.goes.survives clean in
+      let start = g.B.Batch.batch.state c.args.tx.now in
+      let a = g.B.Batch.batch.state c.write_one.new.self in
+      let first = earlier a (g.B.Batch.batch.state c.write_one-2.new.self) c.write_one-2.ensures.goes.survives clean in
       let one = c.in_ok-write_one.ensures in
       let there = shows (one.goes.was_open first (one.goes.going first inside).0) in
       passed_on c.from_residual-in_err-write_one-2.result _ _ IsMemoryOrStore c.from_residual-in_err-write_one-2.ensures.1
@@ -117,19 +116,19 @@ returns-in_err-write_one-3 g c = record {
       record {
         same_reference = c.write_one-3.ensures.same_reference ∙ (c.write_one-2.ensures.same_reference ∙ c.write_one.ensures.same_reference);
         goes =
-            let start = state g.S.Store c.args.tx.now.conn.now in
-            let a = state g.S.Store c.write_one.new.tx.conn.now in
-            let b = state g.S.Store c.write_one-2.new.tx.conn.now in
-            goes_fault_after start b (state g.S.Store c.write_one-3.new.tx.conn.now) _ _ c.from_residual-in_err-write_one-3.result c.from_residual-in_err-write_one-3.ensures.1
+            let start = g.B.Batch.batch.state c.args.tx.now in
+            let a = g.B.Batch.batch.state c.write_one.new.self in
+            let b = g.B.Batch.batch.state c.write_one-2.new.self in
+            goes_fault_after start b (g.B.Batch.batch.state c.write_one-3.new.self) _ _ c.from_residual-in_err-write_one-3.result c.from_residual-in_err-write_one-3.ensures.1
             (goes_then start a b _ (Ok c.in_ok-write_one-2.field-0) c.in_ok-write_one.ensures.goes c.in_ok-write_one-2.ensures.goes) c.in_err-write_one-3.ensures.goes;
         carried = λ clean inside. not_on_ok c.from_residual-in_err-write_one-3.result _ _ c.from_residual-in_err-write_one-3.ensures.1;
       };
   never = passed_on c.from_residual-in_err-write_one-3.result _ _ IsNotNewerSchema c.from_residual-in_err-write_one-3.ensures.1 c.in_err-write_one-3.ensures.never;
   shows = λ clean inside counts v shows.
-      let start = state g.S.Store c.args.tx.now.conn.now in
-      let a = state g.S.Store c.write_one.new.tx.conn.now in
-      let b = state g.S.Store c.write_one-2.new.tx.conn.now in
-      let second = earlier b (state g.S.Store c.write_one-3.new.tx.conn.now) c.write_one-3.ensures.goes.survives clean in
+      let start = g.B.Batch.batch.state c.args.tx.now in
+      let a = g.B.Batch.batch.state c.write_one.new.self in
+      let b = g.B.Batch.batch.state c.write_one-2.new.self in
+      let second = earlier b (g.B.Batch.batch.state c.write_one-3.new.self) c.write_one-3.ensures.goes.survives clean in
       let first = earlier a b c.write_one-2.ensures.goes.survives second in
       let one = c.in_ok-write_one.ensures in
       let two = c.in_ok-write_one-2.ensures in

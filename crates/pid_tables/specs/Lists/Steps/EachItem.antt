@@ -1,8 +1,7 @@
 -- Steps of EachItem.
 use Rattle.std.specs.Prelude.{◌≡◌, ℕ, Result, Ok, Err, IfErr}
-use Rattle.sqlite.specs.Held.{Held}
+use Rattle.sqlite.specs.State.{State}
 use Rattle.sqlite.specs.Order.{Row}
-use Rattle.sqlite_trees.specs.declared.store.Store.{Ghosts}
 use Rattle.pid_reader.specs.LookingBack.{Item}
 use Rattle.pid_reader.specs.Numbered.{Numbered}
 use Rattle.pid_tables.specs.Lists.Clauses.{IsCausedEnd, OverViews}
@@ -37,11 +36,11 @@ module _ {K F X : Type 0} (takes : K → Numbered → K → Type 0)
     pub unread : IfErr result (IsUnreadEnd (ReadsAsItem row))
 
   -- all items are handed to a sink
-  pub record HandsAll {S : Type 0} (store : Ghosts S) (before after : Held S) (old new : K)
+  pub record HandsAll {S : Type 0} (state : S → State) (before after : S) (old new : K)
       (result : Result X (EachEnd F)) : Type 0 where
-    pub rests : OnlyReads store before after
-    pub told : OverViews store before after
+    pub rests : OnlyReads state before after
+    pub told : OverViews state before after
         (λ v. Walks takes faults result (placed_from 1 v.items) old new)
     pub some : WalksSome takes faults result old new
-    pub caused : OverViews store before after
-        (λ v. IsReadable v → IfErr result (IsCausedEnd store before after))
+    pub caused : OverViews state before after
+        (λ v. IsReadable v → IfErr result (IsCausedEnd state before after))

@@ -4,7 +4,8 @@ use Rattle.sqlite.specs.State.{State, HasCleanDisk, Survives}
 use Rattle.pid_moderation.specs.Views.{Views}
 use Rattle.pid_tables.specs.declared.rows.fault.TableFault.{TableFault}
 use Rattle.pid_tables.specs.Rows.Faults.{IsMemoryOrStore}
-use Rattle.pid_tables.specs.Rows.Shows.{Counts, ShowsCounting}
+use Rattle.pid_tables.specs.Rows.Shows.{Counts}
+use Rattle.pid_tables.specs.Rows.Steps.Shows.{ShowsCounting}
 
 -- A call inside a transaction commits nothing, whatever it answers; if it answers a value, the
 -- transaction goes on.

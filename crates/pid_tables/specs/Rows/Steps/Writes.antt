@@ -6,6 +6,7 @@ use Rattle.pid_ident.specs.Trees.{text_cmp}
 use Rattle.pid_moderation.specs.declared.facts.State.{State}
 use Rattle.pid_moderation.specs.declared.facts.State.TheVariants.{Pending, Approved, Rejected}
 use Rattle.pid_moderation.specs.declared.facts.State.TheVariants.{Withdrawn}
+use Rattle.pid_moderation.specs.Changes.{with_items}
 use Rattle.pid_moderation.specs.Views.{Views, Submitted, Remark}
 use Rattle.pid_tables.specs.Rows.Shows.{Numbers}
 use Rattle.std.specs.Ordering.{eq_by_cmp}
@@ -65,3 +66,7 @@ with_reply account key reply v = record v {
   kept = λ a k. if bytes_eq a account
       && bytes_eq k key then Some reply else v.kept a k;
 }
+
+-- a path has this name, and the number if that adds or renames it
+abbrev pub with_name : ℕ → List ℕ → List ℕ → Views → Views
+with_name n path name v = with_items n (put text_cmp path name v.items) v

@@ -4,7 +4,7 @@ use Rattle.std.specs.FinMap.Entries.{find}
 use Rattle.pid_ident.specs.PathTexts.{path_text}
 use Rattle.pid_ident.specs.Trees.{text_cmp}
 use Rattle.pid_tables.proofs.OfCheck.Asking.{nothing_read}
-use Rattle.pid_service.proofs.Words.{connection, History, items_of, name_at, state, tree_of, views_of}
+use Rattle.pid_service.proofs.Words.{connection, History, items_of, name_at, tree_of, views_of}
 use Rattle.pid_service.proofs.Causes.{caused_by}
 use Rattle.pid_service.proofs.Keeping.{true_not}
 use Rattle.pid_service.proofs.Questions.{asked_then, caused_since}
@@ -38,7 +38,7 @@ returns-in-Ok-Some-clause-kept g c =
       faults = λ f. (λ may. may, λ may. may);
       told = (λ may. may, λ may. may);
       asked = λ start asked.
-          asked_then g.S.Store start c.args.self.now _ on refl (nothing_read (state g.S.Store c.args.self.now.tables.conn) c.args.self.now.tables.settled) asked;
+          asked_then g.C.Database start c.args.self.now _ on refl (nothing_read (g.C.Database.state c.args.self.now.tables.conn) c.args.self.now.tables.settled) asked;
     }
 
 pub returns-in-Err-clause-kept : goal.returns-in-Err-clause-kept
@@ -55,7 +55,7 @@ returns-in-Err-clause-kept g c =
       faults = λ f. (λ may. may, λ may. may);
       told = (λ may. may, λ may. may);
       asked = λ start asked.
-          asked_then g.S.Store start c.args.self.now _ on refl (nothing_read (state g.S.Store c.args.self.now.tables.conn) c.args.self.now.tables.settled) asked;
+          asked_then g.C.Database start c.args.self.now _ on refl (nothing_read (g.C.Database.state c.args.self.now.tables.conn) c.args.self.now.tables.settled) asked;
     }
 
 -- ---- the tables are asked
@@ -81,7 +81,7 @@ returns-in-Ok-clause-kept g c =
       was_honest = rests.clean;
       faults = λ f. (λ may. may, λ may. may);
       told = (λ may. may, λ may. may);
-      asked = λ start asked. asked_then g.S.Store start c.args.self.now _ on refl rests asked;
+      asked = λ start asked. asked_then g.C.Database start c.args.self.now _ on refl rests asked;
     }
 
 pub returns-in-Err-item-clause-kept : goal.returns-in-Err-item-clause-kept
@@ -100,7 +100,7 @@ returns-in-Err-item-clause-kept g c =
       was_honest = rests.clean;
       faults = λ f. (λ may. may, λ may. may);
       told = (λ may. may, λ may. may);
-      asked = λ start asked. asked_then g.S.Store start c.args.self.now _ on refl rests asked;
+      asked = λ start asked. asked_then g.C.Database start c.args.self.now _ on refl rests asked;
     }
 
 -- ---- why a fault came
@@ -119,8 +119,8 @@ returns-in-Err-item-clause-fault g c = record { alive = λ on. c.refusal_of.ensu
 
 pub returns-in-Err-item-clause-caused : goal.returns-in-Err-item-clause-caused
 returns-in-Err-item-clause-caused g c clean h shows start asked =
-    caused_since g.S.Store (connection start) c.args.self.now.tables.conn c.item.new.self.conn c.refusal_of.result asked.rests c.item.ensures.rests clean
-    (caused_by g.S.Store c.args.self.now.tables.conn c.item.new.self.conn c.in-Err-item.fault c.refusal_of.result c.refusal_of.ensures.same
+    caused_since g.C.Database (connection start) c.args.self.now.tables.conn c.item.new.self.conn c.refusal_of.result asked.rests c.item.ensures.rests clean
+    (caused_by g.C.Database c.args.self.now.tables.conn c.item.new.self.conn c.in-Err-item.fault c.refusal_of.result c.refusal_of.ensures.same
     (c.in-Err-item.ensures.told clean (views_of h) shows.tables (reached_readable h shows.history)))
 
 pub returns-in-Err-clause-caused : goal.returns-in-Err-clause-caused

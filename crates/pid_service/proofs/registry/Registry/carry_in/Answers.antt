@@ -23,7 +23,7 @@ returns-in-Ok g c = record {
         text = r.0;
         consumed = r.1;
         read = r.2;
-        holds = λ clean h w. ok_obeyed g.S.Store c.args.self.now _ h (asked c.args.command.now (file_reading r.0)) c.in-Ok.reply w.shows refl w.reached (λ clean. c.forget_items.ensures (views_of h) _ (import_leaves h c.args.command.now (file_reading r.0) w.import) (w.shows.kept (c.import_file.ensures.ends.clean clean))) (r.3 clean h w.shows.tables w.shows.history.marked w.import w.waits w.many);
+        holds = λ clean h w. ok_obeyed g.C.Database c.args.self.now _ h (asked c.args.command.now (file_reading r.0)) c.in-Ok.reply w.shows refl w.reached (λ clean. c.forget_items.ensures (views_of h) _ (import_leaves h c.args.command.now (file_reading r.0) w.import) (w.shows.kept (c.import_file.ensures.ends.clean clean))) (r.3 clean h w.shows.tables w.shows.history.marked w.import w.waits w.many);
       };
   caused = λ clean h shows marked import waits many. tt;
 }
@@ -46,7 +46,7 @@ returns-in-Err-Body g c = record {
         consumed = r.1;
         read = body_read c.in-Err-Body.field-0 _ r.0 is r.2;
         holds = λ clean h w.
-            body_carried g.S.Store c.args.self.now _ h (asked c.args.command.now (file_reading r.0)) c.in-Err-Body.field-0 is w.shows refl (λ clean. c.forget_items.ensures (views_of h) (views_of h) (all_left (views_of h)) (w.shows.kept (c.import_file.ensures.ends.clean clean)))
+            body_carried g.C.Database c.args.self.now _ h (asked c.args.command.now (file_reading r.0)) c.in-Err-Body.field-0 is w.shows refl (λ clean. c.forget_items.ensures (views_of h) (views_of h) (all_left (views_of h)) (w.shows.kept (c.import_file.ensures.ends.clean clean)))
             (r.3 clean h w.shows.tables w.shows.history.marked w.import w.waits w.many);
       };
   caused = λ clean h shows marked import waits many. tt;
@@ -70,13 +70,13 @@ returns-in-Err-Refused g c = record {
         consumed = r.1;
         read = refused_read c.in-Err-Refused.field-0 c.in-Err-Refused.refusal _ r.0 is r.2;
         holds = λ clean h w.
-            refused_carried g.S.Store c.args.self.now _ h (asked c.args.command.now (file_reading r.0)) c.in-Err-Refused.field-0 c.in-Err-Refused.refusal is w.shows refl (λ clean. c.forget_items.ensures (views_of h) (views_of h) (all_left (views_of h)) (w.shows.kept (c.import_file.ensures.ends.clean clean)))
+            refused_carried g.C.Database c.args.self.now _ h (asked c.args.command.now (file_reading r.0)) c.in-Err-Refused.field-0 c.in-Err-Refused.refusal is w.shows refl (λ clean. c.forget_items.ensures (views_of h) (views_of h) (all_left (views_of h)) (w.shows.kept (c.import_file.ensures.ends.clean clean)))
             (r.3 clean h w.shows.tables w.shows.history.marked w.import w.waits w.many);
       };
   caused = λ clean h shows marked import waits many.
       let is : c.in-Err-Refused.field-0 ≡ stops.Refused c.in-Err-Refused.refusal = search rules in
       let r = c.in-Err-Refused.ensures.stops in
-      refused_stays g.S.Store outcome_of c.import_file.new.conn c.args.self.now.live h (asked c.args.command.now (file_reading r.0)) c.in-Err-Refused.field-0 c.in-Err-Refused.refusal is shows.lives (r.3 clean h shows.tables marked import waits many);
+      refused_stays g.C.Database outcome_of c.import_file.new.self c.args.self.now.live h (asked c.args.command.now (file_reading r.0)) c.in-Err-Refused.field-0 c.in-Err-Refused.refusal is shows.lives (r.3 clean h shows.tables marked import waits many);
 }
 
 pub returns-in-Err-Failed : goal.returns-in-Err-Failed
@@ -97,7 +97,7 @@ returns-in-Err-Failed g c = record {
         consumed = r.1;
         read = failed_read c.in-Err-Failed.field-0 c.in-Err-Failed.refusal c.stopping.result _ r.0 is r.2;
         holds = λ clean h w.
-            failed_carried g.S.Store c.args.self.now _ h (asked c.args.command.now (file_reading r.0)) c.in-Err-Failed.field-0 c.in-Err-Failed.refusal c.stopping.result is c.stopping.ensures.same w.shows refl c.clear.ensures w.reached
+            failed_carried g.C.Database c.args.self.now _ h (asked c.args.command.now (file_reading r.0)) c.in-Err-Failed.field-0 c.in-Err-Failed.refusal c.stopping.result is c.stopping.ensures.same w.shows refl c.clear.ensures w.reached
             (r.3 clean h w.shows.tables w.shows.history.marked w.import w.waits w.many);
       };
   caused = λ clean h shows marked import waits many fault. inr refl;

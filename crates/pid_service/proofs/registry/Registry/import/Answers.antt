@@ -25,9 +25,9 @@ returns-then-file-gt-FILE_BYTES g c =
       clean = λ clean. clean;
       failed = true_not c.args.self.now.live c.if-not-self.false;
       form = λ on long. (refl, refl);
-      obeyed = λ clean h shows. long_obeyed g.S.Store c.args.self.now h (record { account = c.args.account; key = c.args.key; act = Import [] }) c.args.file.now long_refused refl over shows;
+      obeyed = λ clean h shows. long_obeyed g.C.Database c.args.self.now h (record { account = c.args.account; key = c.args.key; act = Import [] }) c.args.file.now long_refused refl over shows;
       caused = λ clean h shows reading. bad_text;
-      lasts = lasting g.S.Store c.args.self.now c.args.self.now _ (not_failed, inr refl) refl;
+      lasts = lasting g.C.Database c.args.self.now c.args.self.now _ (not_failed, inr refl) refl;
     }
 
 pub returns : goal.returns
@@ -44,12 +44,12 @@ returns g c =
       failed = true_not c.args.self.now.live c.if-not-self.false;
       form = λ on long. absurd (let no : ⊥ = omega (arith, short, long) in no);
       obeyed = λ clean h shows.
-          subst (λ (k : Command). Obeys g.S.Store result new h (asked k (file_reading c.args.file.now))) c.import_command-command.ensures
-          (bytes_obeyed g.S.Store c.import_act.result result new h c.import_command-command.result c.args.file.now r.text c.import_act.new.input.rest.now plain
+          subst (λ (k : Command). Obeys g.C.Database result new h (asked k (file_reading c.args.file.now))) c.import_command-command.ensures
+          (bytes_obeyed g.C.Database c.import_act.result result new h c.import_command-command.result c.args.file.now r.text c.import_act.new.input.rest.now plain
           (λ e. absurd (false≢true (c.import_act.ensures.lasts.reads.fault e))) (sym c.new-input.ensures.rest ∙ r.consumed) r.read short (r.holds clean h shows import));
       caused = λ clean h shows reading.
-          subst (λ (k : Command). IfErr result (Faults g.S.Store old.tables.conn new.tables.conn new.live h (asked k reading))) c.import_command-command.ensures
-          (plain_faults (Faults g.S.Store old.tables.conn new.tables.conn new.live h (asked c.import_command-command.result reading)) c.import_act.result result plain
+          subst (λ (k : Command). IfErr result (Faults g.C.Database old.tables.conn new.tables.conn new.live h (asked k reading))) c.import_command-command.ensures
+          (plain_faults (Faults g.C.Database old.tables.conn new.tables.conn new.live h (asked c.import_command-command.result reading)) c.import_act.result result plain
           (λ e. absurd (false≢true (c.import_act.ensures.lasts.reads.fault e))) (c.import_act.ensures.caused clean h shows reading import));
-      lasts = lasting g.S.Store old new result (c.without_body_fault-answer.ensures.held old.live new.live c.import_act.ensures.lasts.live) c.import_act.ensures.lasts.limit;
+      lasts = lasting g.C.Database old new result (c.without_body_fault-answer.ensures.held old.live new.live c.import_act.ensures.lasts.live) c.import_act.ensures.lasts.limit;
     }

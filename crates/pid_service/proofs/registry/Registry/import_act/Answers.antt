@@ -24,16 +24,16 @@ returns-in-Answered g c = record {
         consumed = r.consumed;
         read = r.read;
         holds = λ clean h shows import.
-            past_obeyed g.S.Store _ h c.args.command.now c.in-Answered.answer c.answer_past.result r.text long_alone long_refused import
-            (only_read g.S.Store c.args.self.now _ h refl c.judge_import.ensures.rests refl shows)
+            past_obeyed g.C.Database _ h c.args.command.now c.in-Answered.answer c.answer_past.result r.text long_alone long_refused import
+            (only_read g.C.Database c.args.self.now _ h refl c.judge_import.ensures.rests refl shows)
             (c.in-Answered.ensures.judged clean h (reached_sound h shows.history) shows.tables) r.holds;
       };
   caused = λ clean h shows reading import.
       let old = c.args.self.now.tables.conn in
       let new = c.judge_import.new.tables.conn in
       let live = c.args.self.now.live in
-      past_faults (Faults g.S.Store old new live h (asked c.args.command.now reading)) c.in-Answered.answer c.answer_past.result c.answer_past.ensures.past.text c.answer_past.ensures.past.holds
-      (early_faults g.S.Store old new live outcome_of shows.lives h c.args.command.now reading c.in-Answered.answer
+      past_faults (Faults g.C.Database old new live h (asked c.args.command.now reading)) c.in-Answered.answer c.answer_past.result c.answer_past.ensures.past.text c.answer_past.ensures.past.holds
+      (early_faults g.C.Database old new live outcome_of shows.lives h c.args.command.now reading c.in-Answered.answer
       (c.in-Answered.ensures.caused clean h (reached_sound h shows.history) shows.tables))
       bad_text;
 }
@@ -55,7 +55,7 @@ returns-in-Open g c = record {
             let early = c.in-Open.ensures.judged (c.carry_in-end.ensures.lasts.clean clean) h (reached_sound h shows.history) shows.tables in
             r.holds clean h
             (record {
-              shows = only_read g.S.Store c.args.self.now _ h refl c.judge_import.ensures.rests refl shows;
+              shows = only_read g.C.Database c.args.self.now _ h refl c.judge_import.ensures.rests refl shows;
               import = import;
               waits = early.0;
               many = early.1;
@@ -64,6 +64,6 @@ returns-in-Open g c = record {
       };
   caused = λ clean h shows reading import.
       let early = c.in-Open.ensures.judged (c.carry_in-end.ensures.lasts.clean clean) h (reached_sound h shows.history) shows.tables in
-      open_faults g.S.Store c.args.self.now.tables.conn c.carry_in-end.new.self.tables.conn c.carry_in-end.new.self.live h c.args.command.now reading _ c.carry_in-end.result early.0
-      (c.carry_in-end.ensures.caused clean h (only_read g.S.Store c.args.self.now _ h refl c.judge_import.ensures.rests refl shows) shows.history.marked import early.0 early.1);
+      open_faults g.C.Database c.args.self.now.tables.conn c.carry_in-end.new.self.tables.conn c.carry_in-end.new.self.live h c.args.command.now reading _ c.carry_in-end.result early.0
+      (c.carry_in-end.ensures.caused clean h (only_read g.C.Database c.args.self.now _ h refl c.judge_import.ensures.rests refl shows) shows.history.marked import early.0 early.1);
 }

@@ -6,10 +6,10 @@ use Rattle.pid_service.proofs.Reached.{reached_readable}
 use Rattle.pid_service.proofs.registry.Registry.keep_pending.Goals as goal
 
 pub returns-then-not-self : goal.returns-then-not-self
-returns-then-not-self g c = failed_here g.S.Store c.args.self.now _ c.if-not-self.true c.args.self.now.tables.settled
+returns-then-not-self g c = failed_here g.C.Database c.args.self.now _ c.if-not-self.true c.args.self.now.tables.settled
 
 pub returns-then-self : goal.returns-then-self
-returns-then-self g c = answered_here g.S.Store c.args.self.now _ _ c.if-not-self.false c.args.self.now.tables.settled (λ clean h shows. tt)
+returns-then-self g c = answered_here g.C.Database c.args.self.now _ _ c.if-not-self.false c.args.self.now.tables.settled (λ clean h shows. tt)
 
 pub returns-in-Ok : goal.returns-in-Ok
 returns-in-Ok g c =
@@ -41,5 +41,5 @@ returns-in-Err-Memory g c =
 
 pub returns-in-Err : goal.returns-in-Err
 returns-in-Err g c =
-    answers_fault g.S.Store c.args.self.now _ c.in-Err.fault c.refusal_of.result _ c.if-not-self.false refl refl c.read_pending_numbers.ensures.rests c.refusal_of.ensures.same c.refusal_of.ensures.fault
+    answers_fault g.C.Database c.args.self.now _ c.in-Err.fault c.refusal_of.result _ c.if-not-self.false refl refl c.read_pending_numbers.ensures.rests c.refusal_of.ensures.same c.refusal_of.ensures.fault
     (λ clean h shows. c.in-Err.ensures.told clean (views_of h) shows.tables (reached_readable h shows.history))

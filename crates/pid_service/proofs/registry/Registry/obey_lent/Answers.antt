@@ -34,10 +34,10 @@ returns-then-breaks_form g c =
       clean = λ clean. clean;
       failed = true_not c.args.self.now.live c.if-not-self.false;
       form = λ on broken. (refl, refl);
-      obeyed = λ clean h shows. broken_form g.S.Store c.args.self.now h (asks c.args.command.now) shows (is h);
+      obeyed = λ clean h shows. broken_form g.C.Database c.args.self.now h (asks c.args.command.now) shows (is h);
       caused = λ clean h shows other. inl (ap answer (is h));
       import_caused = λ clean h shows import. bad_text;
-      lasts = lasting g.S.Store c.args.self.now c.args.self.now _ (not_failed, inr refl) refl;
+      lasts = lasting g.C.Database c.args.self.now c.args.self.now _ (not_failed, inr refl) refl;
     }
 
 -- ---- an import
@@ -53,16 +53,16 @@ returns-in-Import g c =
       failed = true_not c.args.self.now.live c.if-not-self.false;
       form = λ on broken. true_not (is_broken c.args.command.now.act) broken sound;
       obeyed = λ clean h shows.
-          file_given g.S.Store (λ (a : Asked). Obeys g.S.Store c.without_body_fault.result c.import_act.new.self h a) c.args.command.now c.in-Import.file c.as_bytes.result.now c.in-Import.is c.as_bytes.ensures sound
+          file_given g.C.Database (λ (a : Asked). Obeys g.C.Database c.without_body_fault.result c.import_act.new.self h a) c.args.command.now c.in-Import.file c.as_bytes.result.now c.in-Import.is c.as_bytes.ensures sound
           (λ import short.
-          bytes_obeyed g.S.Store c.import_act.result c.without_body_fault.result c.import_act.new.self h c.args.command.now c.as_bytes.result.now r.text c.import_act.new.input.rest.now plain
+          bytes_obeyed g.C.Database c.import_act.result c.without_body_fault.result c.import_act.new.self h c.args.command.now c.as_bytes.result.now r.text c.import_act.new.input.rest.now plain
           (λ e. absurd (false≢true (c.import_act.ensures.lasts.reads.fault e))) (sym c.new-input.ensures.rest ∙ r.consumed) r.read short (r.holds clean h shows import));
       caused = λ clean h shows other. true_not (is_import c.args.command.now.act) import other;
       import_caused = λ clean h shows import.
           let reading = reading_of c.args.command.now.act in
-          plain_faults (Faults g.S.Store c.args.self.now.tables.conn c.import_act.new.self.tables.conn c.import_act.new.self.live h (asked c.args.command.now reading)) c.import_act.result c.without_body_fault.result plain
+          plain_faults (Faults g.C.Database c.args.self.now.tables.conn c.import_act.new.self.tables.conn c.import_act.new.self.live h (asked c.args.command.now reading)) c.import_act.result c.without_body_fault.result plain
           (λ e. absurd (false≢true (c.import_act.ensures.lasts.reads.fault e))) (c.import_act.ensures.caused clean h shows reading import);
-      lasts = lasting g.S.Store c.args.self.now c.import_act.new.self c.without_body_fault.result (c.without_body_fault.ensures.held c.args.self.now.live c.import_act.new.self.live c.import_act.ensures.lasts.live) c.import_act.ensures.lasts.limit;
+      lasts = lasting g.C.Database c.args.self.now c.import_act.new.self c.without_body_fault.result (c.without_body_fault.ensures.held c.args.self.now.live c.import_act.new.self.live c.import_act.ensures.lasts.live) c.import_act.ensures.lasts.limit;
     }
 
 -- ---- a refusal of the judgement, or a fault
@@ -76,11 +76,11 @@ returns-in-Err g c =
       failed = true_not c.args.self.now.live c.if-not-self.false;
       form = λ on broken. true_not (is_broken c.args.command.now.act) broken (sym c.breaks_form.ensures.broken ∙ c.if-breaks_form.false);
       obeyed = λ clean h shows.
-          refused g.S.Store _ h (asks c.args.command.now) c.in-Err.refusal (only_read g.S.Store c.args.self.now _ h refl c.judge.ensures.rests refl shows)
+          refused g.C.Database _ h (asks c.args.command.now) c.in-Err.refusal (only_read g.C.Database c.args.self.now _ h refl c.judge.ensures.rests refl shows)
           (c.in-Err.ensures.judged clean h reading shows.history shows.tables other);
       import_caused = λ clean h shows import. true_not (is_import c.args.command.now.act) import other;
-      caused = λ clean h shows same. judged_for g.S.Store c.args.self.now.tables.conn c.judge.new.tables.conn c.args.self.now.live h (asks c.args.command.now) c.in-Err.refusal shows.lives (c.in-Err.ensures.caused clean h reading shows.history shows.tables other);
-      lasts = lasting g.S.Store c.args.self.now _ _ (c.in-Err.ensures.alive, inr refl) c.judge.ensures.rests.survives.limit;
+      caused = λ clean h shows same. judged_for g.C.Database c.args.self.now.tables.conn c.judge.new.tables.conn c.args.self.now.live h (asks c.args.command.now) c.in-Err.refusal shows.lives (c.in-Err.ensures.caused clean h reading shows.history shows.tables other);
+      lasts = lasting g.C.Database c.args.self.now _ _ (c.in-Err.ensures.alive, inr refl) c.judge.ensures.rests.survives.limit;
     }
 
 -- ---- what comes of it otherwise
@@ -89,7 +89,7 @@ pub returns-in-Ok : goal.returns-in-Ok
 returns-in-Ok g c =
     let reading = file_reading (file_of c.args.command.now.act) in
     let other : is_import c.args.command.now.act ≡ false = search rules in
-    let told : (clean : HasCleanDisk g.S.Store c.carry_out-answer.new.self) (h : History) (shows : Shows g.S.Store c.args.self.now h) → JudgesCommand h (asks c.args.command.now) (Ok c.in-Ok.judged) =
+    let told : (clean : HasCleanDisk g.C.Database c.carry_out-answer.new.self) (h : History) (shows : Shows g.C.Database c.args.self.now h) → JudgesCommand h (asks c.args.command.now) (Ok c.in-Ok.judged) =
     λ clean h shows. c.in-Ok.ensures.judged (c.carry_out-answer.ensures.held.clean clean) h reading shows.history shows.tables other in
     record {
       clean = λ clean. c.judge.ensures.rests.clean (c.carry_out-answer.ensures.held.clean clean);
@@ -98,11 +98,11 @@ returns-in-Ok g c =
       obeyed = λ clean h shows.
           c.carry_out-answer.ensures.obeyed h (asks c.args.command.now)
           (record {
-            shows = only_read g.S.Store c.args.self.now _ h refl c.judge.ensures.rests refl shows;
+            shows = only_read g.C.Database c.args.self.now _ h refl c.judge.ensures.rests refl shows;
             reached = reached_after h (asks c.args.command.now) shows.history (well_made c.args.command.now reading other c.command_is_well_made.ensures);
             comes = told clean h shows;
           });
       import_caused = λ clean h shows import. true_not (is_import c.args.command.now.act) import other;
-      caused = λ clean h shows same. failed_over g.S.Store c.args.self.now c.carry_out-answer.new.self c.args.self.now.live h (asks c.args.command.now) c.in-Ok.judged c.carry_out-answer.result c.carry_out-answer.ensures.held.live c.carry_out-answer.ensures.repeated (told clean h shows);
-      lasts = lasting g.S.Store c.args.self.now c.carry_out-answer.new.self c.carry_out-answer.result (carried c.carry_out-answer.result c.args.self.now.live c.carry_out-answer.new.self.live c.carry_out-answer.ensures.held.live) (c.carry_out-answer.ensures.held.limit ∙ c.judge.ensures.rests.survives.limit);
+      caused = λ clean h shows same. failed_over g.C.Database c.args.self.now c.carry_out-answer.new.self c.args.self.now.live h (asks c.args.command.now) c.in-Ok.judged c.carry_out-answer.result c.carry_out-answer.ensures.held.live c.carry_out-answer.ensures.repeated (told clean h shows);
+      lasts = lasting g.C.Database c.args.self.now c.carry_out-answer.new.self c.carry_out-answer.result (carried c.carry_out-answer.result c.args.self.now.live c.carry_out-answer.new.self.live c.carry_out-answer.ensures.held.live) (c.carry_out-answer.ensures.held.limit ∙ c.judge.ensures.rests.survives.limit);
     }

@@ -41,8 +41,8 @@ returns-in_default g c =
       complete = λ is. absurd (some_not (Some Memory) refl is);
       cut = λ on some. less;
       most = omega (arith, less);
-      ran = λ clean h shows. runs_none g.S.Store asks _ _ h c.args.commands.now Memory none refl (inl refl) less shows;
-      in_turn = λ on. turn_short g.S.Store _ c.args.commands.now c.args.self.now none refl less;
+      ran = λ clean h shows. runs_none g.C.Database asks _ _ h c.args.commands.now Memory none refl (inl refl) less shows;
+      in_turn = λ on. turn_short g.C.Database _ c.args.commands.now c.args.self.now none refl less;
       stays = λ on fine. on;
       fails = λ on off. inl refl;
       alive = λ on. subst (AllByRecursion ReplyIsNotFailed) (sym none) tt;
@@ -70,7 +70,7 @@ loop-command-init g c =
       λ on. on,
       λ on. subst (AllByRecursion ReplyIsNotFailed) (sym none) tt,
       refl,
-      turn_none g.S.Store _ _ none,
+      turn_none g.C.Database _ _ none,
     )
 
 pub loop-command-preserved : goal.loop-command-preserved
@@ -84,7 +84,7 @@ loop-command-preserved g c =
       omega (arith, c.loop-command.invariant.2, c.push.ensures.capacity),
       λ clean. c.loop-command.invariant.3 (c.obey_lent-outcome.ensures.clean clean),
       λ clean h shows.
-          let more = obeyed_more g.S.Store c.obey_lent-outcome.result c.loop-command.self c.obey_lent-outcome.new.self h (take i all) (take (i + 1) all) (asks c.command-item.result) c.loop-command.replies.items
+          let more = obeyed_more g.C.Database c.obey_lent-outcome.result c.loop-command.self c.obey_lent-outcome.new.self h (take i all) (take (i + 1) all) (asks c.command-item.result) c.loop-command.replies.items
           (one_more asks c.args.commands.now i c.command-item.result (omega (arith, c.loop-command-test.true)) (sym c.command-item.is))
           (c.loop-command.invariant.4 (c.obey_lent-outcome.ensures.clean clean) h shows)
           (λ so. c.obey_lent-outcome.ensures.obeyed clean (after_all h (take i all)) so)
@@ -95,8 +95,8 @@ loop-command-preserved g c =
           subst (AllByRecursion ReplyIsNotFailed) (sym (rw good at c.push.ensures.items))
           (all_with ReplyIsNotFailed c.loop-command.replies.items c.obey_lent-outcome.result (c.loop-command.invariant.6 on) (c.obey_lent-outcome.ensures.lasts.alive (c.loop-command.invariant.5 on))),
       c.obey_lent-outcome.ensures.lasts.limit ∙ c.loop-command.invariant.7,
-      subst (λ l. ObeysInTurn g.S.Store (take (i + 1) c.args.commands.now) l c.args.self.now c.obey_lent-outcome.new.self) (sym (rw good at c.push.ensures.items))
-          (turn_more g.S.Store c.args.commands.now i c.loop-command.replies.items c.args.self.now c.loop-command.self c.obey_lent-outcome.new.self c.command-item.result c.obey_lent-outcome.result
+      subst (λ l. ObeysInTurn g.C.Database (take (i + 1) c.args.commands.now) l c.args.self.now c.obey_lent-outcome.new.self) (sym (rw good at c.push.ensures.items))
+          (turn_more g.C.Database c.args.commands.now i c.loop-command.replies.items c.args.self.now c.loop-command.self c.obey_lent-outcome.new.self c.command-item.result c.obey_lent-outcome.result
           (omega (arith, c.loop-command-test.true)) (sym c.command-item.is) c.loop-command.invariant.8 c.obey_lent-outcome.ensures),
     )
 
@@ -116,7 +116,7 @@ returns-then-is_some g c =
       cut = λ on is. omega (arith, c.loop-command.invariant.1, c.loop-command-test.true);
       most = omega (arith, c.loop-command.invariant.1, c.loop-command-test.true);
       ran = λ clean h shows.
-          ends_at g.S.Store c.obey_lent-outcome.result _ c.loop-command.self c.obey_lent-outcome.new.self h i all (drop (suc i) all) (asks c.command-item.result)
+          ends_at g.C.Database c.obey_lent-outcome.result _ c.loop-command.self c.obey_lent-outcome.new.self h i all (drop (suc i) all) (asks c.command-item.result)
           (next_is asks c.args.commands.now i c.command-item.result (omega (arith, c.loop-command-test.true)) (sym c.command-item.is))
           (so_many asks c.args.commands.now i c.command-item.result h (omega (arith, c.loop-command-test.true)) (sym c.command-item.is))
           (c.loop-command.invariant.4 (does.clean clean) h shows)
@@ -124,7 +124,7 @@ returns-then-is_some g c =
           c.fault_of-fault.ensures.told
           some;
       in_turn = λ on.
-          turn_stops g.S.Store _ c.args.commands.now i c.args.self.now c.loop-command.self c.obey_lent-outcome.new.self c.command-item.result c.obey_lent-outcome.result
+          turn_stops g.C.Database _ c.args.commands.now i c.args.self.now c.loop-command.self c.obey_lent-outcome.new.self c.command-item.result c.obey_lent-outcome.result
           (omega (arith, c.loop-command-test.true)) (sym c.command-item.is) c.loop-command.invariant.1 c.loop-command.invariant.8 does c.fault_of-fault.ensures.told some;
       stays = λ on none. absurd (some_not c.fault_of-fault.result some none);
       fails = λ on off. some_fault c.fault_of-fault.result some c.fault_of-fault.ensures.fault;
@@ -144,8 +144,8 @@ returns g c =
       complete = λ none. omega arith;
       cut = λ on some. absurd (let no : ⊥ = cc in no);
       most = omega arith;
-      ran = λ clean h shows. runs_all g.S.Store _ c.loop-command.self h c.loop-command.command-index (map asks c.args.commands.now) end c.loop-command.invariant.1 refl (c.loop-command.invariant.4 clean h shows);
-      in_turn = λ on. turn_ends g.S.Store _ c.args.commands.now c.loop-command.command-index c.args.self.now c.loop-command.self c.loop-command.invariant.1 c.loop-command.invariant.8 refl;
+      ran = λ clean h shows. runs_all g.C.Database _ c.loop-command.self h c.loop-command.command-index (map asks c.args.commands.now) end c.loop-command.invariant.1 refl (c.loop-command.invariant.4 clean h shows);
+      in_turn = λ on. turn_ends g.C.Database _ c.args.commands.now c.loop-command.command-index c.args.self.now c.loop-command.self c.loop-command.invariant.1 c.loop-command.invariant.8 refl;
       stays = λ on none. c.loop-command.invariant.5 on;
       fails = λ on. true_not c.loop-command.self.live (c.loop-command.invariant.5 on);
       alive = c.loop-command.invariant.6;

@@ -7,10 +7,10 @@ use Rattle.pid_service.proofs.registry.Registry.run.Given as goal
 abbrev pub invariant-loop-command : goal.invariant-loop-command
 invariant-loop-command g l =
     (vec_len l.replies ≡ l.command-index) × (length l.replies.items ≡ l.command-index) × (length l.commands ≤ vec_capacity l.replies)
-    × (HasCleanDisk g.S.Store l.self → HasCleanDisk g.S.Store l.fn.self)
-    × (HasCleanDisk g.S.Store l.self → (h : History) → Shows g.S.Store l.fn.self h
-    → (l.replies.items ≡ answers h (take l.command-index (map asks l.commands))) × Shows g.S.Store l.self (after_all h (take l.command-index (map asks l.commands))))
+    × (HasCleanDisk g.C.Database l.self → HasCleanDisk g.C.Database l.fn.self)
+    × (HasCleanDisk g.C.Database l.self → (h : History) → Shows g.C.Database l.fn.self h
+    → (l.replies.items ≡ answers h (take l.command-index (map asks l.commands))) × Shows g.C.Database l.self (after_all h (take l.command-index (map asks l.commands))))
     × (is_live l.fn.self ≡ true → is_live l.self ≡ true)
     × (is_live l.fn.self ≡ true → AllByRecursion ReplyIsNotFailed l.replies.items)
-    × KeepsLimit g.S.Store l.fn.self l.self
-    × ObeysInTurn g.S.Store (take l.command-index l.commands) l.replies.items l.fn.self l.self
+    × KeepsLimit g.C.Database l.fn.self l.self
+    × ObeysInTurn g.C.Database (take l.command-index l.commands) l.replies.items l.fn.self l.self

@@ -4,6 +4,6 @@ use Rattle.pid_service.proofs.registry_calls.RegistryRegistryCalls.obey.Goals as
 
 pub returns : goal.returns
 returns g c = record {
-  calls = (sessions_met g.S.Store).obeys c.args.self.now c.obey_lent-answer.new.self (asks c.args.command) c.obey_lent-answer.result c.obey_lent-answer.ensures.clean c.obey_lent-answer.ensures.failed c.obey_lent-answer.ensures.obeyed;
+  calls = (sessions_met g.C.Database).obeys c.args.self.now c.obey_lent-answer.new.self (asks c.args.command) c.obey_lent-answer.result c.obey_lent-answer.ensures.clean c.obey_lent-answer.ensures.failed c.obey_lent-answer.ensures.obeyed;
   own = c.obey_lent-answer.ensures;
 }

@@ -17,20 +17,20 @@ page_with revision now told items same is = ap (λ (l : List Changed). record { 
 
 pub returns-then-not-self : goal.returns-then-not-self
 returns-then-not-self g c =
-    promised g.S.Store c.args.self.now _ _ _
-    (failed_here g.S.Store c.args.self.now _ c.if-not-self.true c.args.self.now.tables.settled)
+    promised g.C.Database c.args.self.now _ _ _
+    (failed_here g.C.Database c.args.self.now _ c.if-not-self.true c.args.self.now.tables.settled)
 
 pub returns-in-Err : goal.returns-in-Err
 returns-in-Err g c =
-    promised g.S.Store c.args.self.now _ _ _
-    (answers_fault g.S.Store c.args.self.now _ c.in-Err.fault c.refusal_of.result _ c.if-not-self.false refl refl c.revision.ensures.rests c.refusal_of.ensures.same c.refusal_of.ensures.fault
+    promised g.C.Database c.args.self.now _ _ _
+    (answers_fault g.C.Database c.args.self.now _ c.in-Err.fault c.refusal_of.result _ c.if-not-self.false refl refl c.revision.ensures.rests c.refusal_of.ensures.same c.refusal_of.ensures.fault
     (λ clean h shows. c.in-Err.ensures.told clean (views_of h) shows.tables (reached_readable h shows.history)))
 
 -- ---- none was changed, or the items are kept
 
 pub returns-in-Some : goal.returns-in-Some
 returns-in-Some g c =
-    promised g.S.Store c.args.self.now _ _ _
+    promised g.C.Database c.args.self.now _ _ _
     (record {
       failed = true_not c.args.self.now.live c.if-not-self.false;
       fault = tt;
@@ -39,7 +39,7 @@ returns-in-Some g c =
       told = λ clean h shows.
           let now : c.in-Ok.revision ≡ (views_of h).revision = c.in-Ok.ensures.told clean (views_of h) shows.tables in
           let page = c.in-Some.ensures (views_of h) now (within_revision h) (shows.kept (c.revision.ensures.rests.clean clean)).changes ∙ ap (λ (start : Option Path). take PAGE (changed_after c.args.since (start_text start) (views_of h))) c.copied-start.ensures in
-          (page_with c.in-Ok.revision (views_of h).revision c.in-Some.items.items _ now page, only_read g.S.Store c.args.self.now _ h refl c.revision.ensures.rests refl shows);
+          (page_with c.in-Ok.revision (views_of h).revision c.in-Some.items.items _ now page, only_read g.C.Database c.args.self.now _ h refl c.revision.ensures.rests refl shows);
       caused = λ clean h shows. tt;
     })
 
@@ -47,7 +47,7 @@ returns-in-Some g c =
 
 pub returns-in-Ok-changes_page : goal.returns-in-Ok-changes_page
 returns-in-Ok-changes_page g c =
-    promised g.S.Store c.args.self.now _ _ _
+    promised g.C.Database c.args.self.now _ _ _
     (let first = c.revision.ensures.rests in
     let second = c.changes_page.ensures.rests in
     record {
@@ -81,7 +81,7 @@ returns-in-Ok-changes_page g c =
 
 pub returns-in-Err-changes_page : goal.returns-in-Err-changes_page
 returns-in-Err-changes_page g c =
-    promised g.S.Store c.args.self.now _ _ _
-    (let read = reads_after g.S.Store c.args.self.now.tables.conn c.revision.new.self.conn c.changes_page.new.self.conn (Err c.in-Err-changes_page.fault) _ c.revision.ensures.rests c.in-Err-changes_page.ensures in
-    answers_fault g.S.Store c.args.self.now _ c.in-Err-changes_page.fault c.refusal_of-in-Err-changes_page.result _ c.if-not-self.false refl refl read.rests c.refusal_of-in-Err-changes_page.ensures.same c.refusal_of-in-Err-changes_page.ensures.fault
+    promised g.C.Database c.args.self.now _ _ _
+    (let read = reads_after g.C.Database c.args.self.now.tables.conn c.revision.new.self.conn c.changes_page.new.self.conn (Err c.in-Err-changes_page.fault) _ c.revision.ensures.rests c.in-Err-changes_page.ensures in
+    answers_fault g.C.Database c.args.self.now _ c.in-Err-changes_page.fault c.refusal_of-in-Err-changes_page.result _ c.if-not-self.false refl refl read.rests c.refusal_of-in-Err-changes_page.ensures.same c.refusal_of-in-Err-changes_page.ensures.fault
     (λ clean h shows. read.told clean (views_of h) shows.tables (reached_readable h shows.history)))

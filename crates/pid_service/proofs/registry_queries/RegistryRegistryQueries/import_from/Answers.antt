@@ -14,23 +14,23 @@ returns g c = record {
       let taken = c.import_act-end.ensures.taken in
       let asks = import_of c.args.account c.args.key (file_reading taken.text) in
       let import : is_import c.import_command-command.result.act ≡ true = rw c.import_command-command.ensures refl in
-      let leaves : OverHistory g.S.Store c.args.self.now c.import_act-end.new.self (λ h. ObeysImport g.S.Store c.import_act-end.result c.import_act-end.new.self h asks) =
-      λ clean h shows. subst (λ (k : Command). ObeysImport g.S.Store c.import_act-end.result c.import_act-end.new.self h (asked k (file_reading taken.text))) c.import_command-command.ensures (taken.holds clean h shows import) in
+      let leaves : OverHistory g.C.Database c.args.self.now c.import_act-end.new.self (λ h. ObeysImport g.C.Database c.import_act-end.result c.import_act-end.new.self h asks) =
+      λ clean h shows. subst (λ (k : Command). ObeysImport g.C.Database c.import_act-end.result c.import_act-end.new.self h (asked k (file_reading taken.text))) c.import_command-command.ensures (taken.holds clean h shows import) in
       record {
         text = taken.text;
         consumed = taken.consumed;
         read = taken.read;
         holds = record {
-          calls = (sessions_met g.S.Store).imports c.args.self.now c.import_act-end.new.self asks c.import_act-end.result c.import_act-end.ensures.lasts.clean (true_not c.args.self.now.live c.if-not-self.false) leaves;
+          calls = (sessions_met g.C.Database).imports c.args.self.now c.import_act-end.new.self asks c.import_act-end.result c.import_act-end.ensures.lasts.clean (true_not c.args.self.now.live c.if-not-self.false) leaves;
           leaves = leaves;
         };
       };
   reads = c.import_act-end.ensures.lasts.reads;
   lasts =
       let import : is_import c.import_command-command.result.act ≡ true = rw c.import_command-command.ensures refl in
-      end_lasting g.S.Store c.args.self.now c.import_act-end.new.self (import_of c.args.account c.args.key) c.import_act-end.result c.import_act-end.ensures.lasts.live c.import_act-end.ensures.lasts.limit
+      end_lasting g.C.Database c.args.self.now c.import_act-end.new.self (import_of c.args.account c.args.key) c.import_act-end.result c.import_act-end.ensures.lasts.live c.import_act-end.ensures.lasts.limit
       (λ clean h shows reading.
-      subst (λ (k : Command). IfErr c.import_act-end.result (OfRefusal (Faults g.S.Store c.args.self.now.tables.conn c.import_act-end.new.self.tables.conn c.import_act-end.new.self.live h (asked k reading)))) c.import_command-command.ensures
+      subst (λ (k : Command). IfErr c.import_act-end.result (OfRefusal (Faults g.C.Database c.args.self.now.tables.conn c.import_act-end.new.self.tables.conn c.import_act-end.new.self.live h (asked k reading)))) c.import_command-command.ensures
       (c.import_act-end.ensures.caused clean h shows reading import));
 }
 
@@ -46,7 +46,7 @@ returns-then-not-self g c = record {
         consumed = past.consumed;
         read = past.read;
         holds = record {
-          calls = (sessions_met g.S.Store).imports c.args.self.now c.args.self.now (import_of c.args.account c.args.key (file_reading past.text)) c.answer_past.result (λ clean. clean) (λ off. (failed_past _ _ past.holds, refl))
+          calls = (sessions_met g.C.Database).imports c.args.self.now c.args.self.now (import_of c.args.account c.args.key (file_reading past.text)) c.answer_past.result (λ clean. clean) (λ off. (failed_past _ _ past.holds, refl))
               (λ clean h shows. true_not c.args.self.now.live shows.lives c.if-not-self.true);
           leaves = λ clean h shows. true_not c.args.self.now.live shows.lives c.if-not-self.true;
         };

@@ -6,10 +6,10 @@ use Rattle.pid_service.proofs.registry_queries.RegistryRegistryQueries.pending.G
 
 pub returns-in-Ok : goal.returns-in-Ok
 returns-in-Ok g c =
-    promised g.S.Store c.args.self.now _ _ _
-    (answers_after g.S.Store c.args.self.now c.keep_pending.new.self _ _ c.pending_by.result c.fault_as_refusal.result _ _ _ c.in-Ok.ensures refl refl c.pending_by.ensures c.fault_as_refusal.ensures reached_readable (λ h page shows clean told. told (shows.kept clean).pending))
+    promised g.C.Database c.args.self.now _ _ _
+    (answers_after g.C.Database c.args.self.now c.keep_pending.new.self _ _ c.pending_by.result c.fault_as_refusal.result _ _ _ c.in-Ok.ensures refl refl c.pending_by.ensures c.fault_as_refusal.ensures reached_readable (λ h page shows clean told. told (shows.kept clean).pending))
 
 pub returns-in-Err : goal.returns-in-Err
 returns-in-Err g c =
-    promised g.S.Store c.args.self.now _ _ _
-    (answers_refused g.S.Store c.args.self.now c.keep_pending.new.self c.in-Err.refusal _ _ c.in-Err.ensures)
+    promised g.C.Database c.args.self.now _ _ _
+    (answers_refused g.C.Database c.args.self.now c.keep_pending.new.self c.in-Err.refusal _ _ c.in-Err.ensures)

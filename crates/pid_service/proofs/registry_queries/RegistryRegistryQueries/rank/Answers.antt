@@ -7,11 +7,11 @@ use Rattle.pid_service.proofs.registry_queries.RegistryRegistryQueries.rank.Goal
 
 pub returns-then-not-self : goal.returns-then-not-self
 returns-then-not-self g c =
-    promised g.S.Store c.args.self.now _ _ _
-    (failed_here g.S.Store c.args.self.now _ c.if-not-self.true c.args.self.now.tables.settled)
+    promised g.C.Database c.args.self.now _ _ _
+    (failed_here g.C.Database c.args.self.now _ c.if-not-self.true c.args.self.now.tables.settled)
 
 pub returns : goal.returns
 returns g c =
     let Says : History → Option Rank → Type 0 = λ h rank. rank ≡ rank_of c.args.who.now h in
-    promised g.S.Store c.args.self.now _ c.fault_as_refusal.result Says
-    (answers_read g.S.Store c.args.self.now _ c.rank.result c.fault_as_refusal.result _ Says c.if-not-self.false refl refl c.rank.ensures c.fault_as_refusal.ensures reached_readable (λ h rank shows clean told. told ∙ ap (λ (a : List ℕ). rank_of a h) c.as_str.ensures.text))
+    promised g.C.Database c.args.self.now _ c.fault_as_refusal.result Says
+    (answers_read g.C.Database c.args.self.now _ c.rank.result c.fault_as_refusal.result _ Says c.if-not-self.false refl refl c.rank.ensures c.fault_as_refusal.ensures reached_readable (λ h rank shows clean told. told ∙ ap (λ (a : List ℕ). rank_of a h) c.as_str.ensures.text))

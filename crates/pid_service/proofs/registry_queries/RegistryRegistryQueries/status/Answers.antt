@@ -10,10 +10,10 @@ use Rattle.pid_service.proofs.registry_queries.RegistryRegistryQueries.status.Go
 pub returns-in-Ok-status_by : goal.returns-in-Ok-status_by
 returns-in-Ok-status_by g c =
     let mid = c.keep_pending.new.self in
-    let on : is_live mid ≡ true = live_after g.S.Store c.args.self.now mid _ _ c.in-Ok.ensures in
+    let on : is_live mid ≡ true = live_after g.C.Database c.args.self.now mid _ _ c.in-Ok.ensures in
     let found = c.in-Ok-status_by.ensures in
-    promised g.S.Store c.args.self.now _ _ _
-    (answers_then g.S.Store c.args.self.now mid _ _ _ _ _ c.in-Ok.ensures
+    promised g.C.Database c.args.self.now _ _ _
+    (answers_then g.C.Database c.args.self.now mid _ _ _ _ _ c.in-Ok.ensures
     (record {
       failed = true_not (is_live mid) on;
       fault = tt;
@@ -36,12 +36,12 @@ returns-in-Ok-status_by g c =
 pub returns-in-Err-status_by : goal.returns-in-Err-status_by
 returns-in-Err-status_by g c =
     let mid = c.keep_pending.new.self in
-    promised g.S.Store c.args.self.now _ _ _
-    (answers_then g.S.Store c.args.self.now mid _ _ _ _ _ c.in-Ok.ensures
-    (answers_fault g.S.Store mid _ c.in-Err-status_by.fault c.refusal_of.result _ (live_after g.S.Store c.args.self.now mid _ _ c.in-Ok.ensures) refl refl c.status_by.ensures.rests c.refusal_of.ensures.same c.refusal_of.ensures.fault
+    promised g.C.Database c.args.self.now _ _ _
+    (answers_then g.C.Database c.args.self.now mid _ _ _ _ _ c.in-Ok.ensures
+    (answers_fault g.C.Database mid _ c.in-Err-status_by.fault c.refusal_of.result _ (live_after g.C.Database c.args.self.now mid _ _ c.in-Ok.ensures) refl refl c.status_by.ensures.rests c.refusal_of.ensures.same c.refusal_of.ensures.fault
     (λ clean h shows. c.in-Err-status_by.ensures.told clean (views_of h) shows.tables (reached_readable h shows.history))))
 
 pub returns-in-Err : goal.returns-in-Err
 returns-in-Err g c =
-    promised g.S.Store c.args.self.now _ _ _
-    (answers_refused g.S.Store c.args.self.now c.keep_pending.new.self c.in-Err.refusal _ _ c.in-Err.ensures)
+    promised g.C.Database c.args.self.now _ _ _
+    (answers_refused g.C.Database c.args.self.now c.keep_pending.new.self c.in-Err.refusal _ _ c.in-Err.ensures)

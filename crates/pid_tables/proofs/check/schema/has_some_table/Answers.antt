@@ -1,6 +1,5 @@
 use Rattle.std.proofs.Common.{◌≡◌, ◌↔◌, arith, Bool, true, Ok, Err, Result, IfOk, IfErr, OnOk, MatchResult, IsTrue}
 use Rattle.pid_tables.specs.declared.rows.schema_version.Version.TheVariants.{Two}
-use Rattle.sqlite.specs.Held.{state}
 use Rattle.sqlite.specs.State.{State}
 use Rattle.pid_moderation.specs.Views.{Views}
 use Rattle.pid_tables.specs.declared.rows.fault.TableFault.{TableFault}
@@ -14,7 +13,7 @@ use Rattle.pid_tables.proofs.check.schema.has_some_table.Goals as goal
 
 pub returns-clause-found : goal.returns-clause-found
 returns-clause-found g c = record {
-  asked = λ clean. if_ok c.some_can.result (λ asked judged. some_table c.args.tables.now.conn.schema asked judged) (c.some_can.ensures.asks.asked clean);
+  asked = λ clean. if_ok c.some_can.result (λ asked judged. some_table (g.C.Database.state c.args.tables.now.conn).now.schema asked judged) (c.some_can.ensures.asks.asked clean);
   was_open = λ clean. c.some_can.ensures.was_open clean (omega arith);
   same = c.some_can.ensures.asks.same;
   only_store = c.some_can.ensures.asks.only_store;
@@ -30,6 +29,6 @@ pub returns-clause-reads : goal.returns-clause-reads
 returns-clause-reads g c = record {
   rests = c.some_can.ensures.asks.rests;
   told = λ clean v rest.
-      told (state g.S.Store c.args.tables.now.conn) (state g.S.Store c.some_can.new.tables.conn) v c.some_can.result rest (c.some_can.ensures.was_open clean (omega arith)) (if_ok c.some_can.result (λ asked judged. some_table c.args.tables.now.conn.schema asked judged) (c.some_can.ensures.asks.asked clean))
+      told (g.C.Database.state c.args.tables.now.conn) (g.C.Database.state c.some_can.new.tables.conn) v c.some_can.result rest (c.some_can.ensures.was_open clean (omega arith)) (if_ok c.some_can.result (λ asked judged. some_table (g.C.Database.state c.args.tables.now.conn).now.schema asked judged) (c.some_can.ensures.asks.asked clean))
       (c.some_can.ensures.caused clean v rest);
 }

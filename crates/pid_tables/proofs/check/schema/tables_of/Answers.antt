@@ -1,6 +1,5 @@
 use Rattle.std.proofs.Common.{subst, sym, ◌∙◌}
 use Rattle.sqlite.specs.Effect.{Database}
-use Rattle.sqlite.specs.Held.{state}
 use Rattle.pid_tables.proofs.OfRows.OnlyReading.{reads_then}
 use Rattle.pid_tables.specs.Check.Shapes.{CanBeAsked}
 use Rattle.pid_tables.proofs.OfCheck.Telling.{neither, off_on}
@@ -18,7 +17,7 @@ returns-then-not-branch g c = record {
 
 pub returns-in_err-can_ask-2 : goal.returns-in_err-can_ask-2
 returns-in_err-can_ask-2 g c = record {
-  rests = reads_then (state g.S.Store c.args.tables.now.conn) (state g.S.Store c.can_ask.new.tables.conn) (state g.S.Store c.can_ask-2.new.tables.conn) c.in_ok-can_ask.ensures.asks.rests c.in_err-can_ask-2.ensures.asks.rests;
+  rests = reads_then (g.C.Database.state c.args.tables.now.conn) (g.C.Database.state c.can_ask.new.tables.conn) (g.C.Database.state c.can_ask-2.new.tables.conn) c.in_ok-can_ask.ensures.asks.rests c.in_err-can_ask-2.ensures.asks.rests;
   same = λ clean. no_value c.from_residual-in_err-can_ask-2.result _ _ c.from_residual-in_err-can_ask-2.ensures.1;
   asked = λ clean. no_value c.from_residual-in_err-can_ask-2.result _ _ c.from_residual-in_err-can_ask-2.ensures.1;
   only_store = passed_from c.from_residual-in_err-can_ask-2.result _ IsMemoryOrStore c.from_residual-in_err-can_ask-2.ensures.1 c.in_err-can_ask-2.ensures.asks.only_store;
@@ -26,10 +25,10 @@ returns-in_err-can_ask-2 g c = record {
 
 pub returns-then-branch : goal.returns-then-branch
 returns-then-branch g c = record {
-  rests = reads_then (state g.S.Store c.args.tables.now.conn) (state g.S.Store c.can_ask.new.tables.conn) (state g.S.Store c.can_ask-2.new.tables.conn) c.in_ok-can_ask.ensures.asks.rests c.in_ok-can_ask-2.ensures.asks.rests;
+  rests = reads_then (g.C.Database.state c.args.tables.now.conn) (g.C.Database.state c.can_ask.new.tables.conn) (g.C.Database.state c.can_ask-2.new.tables.conn) c.in_ok-can_ask.ensures.asks.rests c.in_ok-can_ask-2.ensures.asks.rests;
   same = λ clean. c.in_ok-can_ask-2.ensures.asks.same clean ∙ c.in_ok-can_ask.ensures.asks.same (c.in_ok-can_ask-2.ensures.asks.rests.clean clean);
   asked = λ clean each.
-      let a = (state g.S.Store c.args.tables.now.conn).now in
+      let a = (g.C.Database.state c.args.tables.now.conn).now in
       let mid = c.in_ok-can_ask-2.ensures.asks.rests.clean clean in
       let asked = subst (λ (d : Database). CanBeAsked d.schema c.query.result.now) (c.in_ok-can_ask.ensures.asks.same mid) ((c.in_ok-can_ask-2.ensures.asks.asked clean).0 c.if-branch.true) in
       (each, (c.in_ok-can_ask.ensures.asks.asked mid).0 c.if-not-branch.false, subst (CanBeAsked a.schema) c.query.ensures asked);
@@ -38,10 +37,10 @@ returns-then-branch g c = record {
 
 pub returns : goal.returns
 returns g c = record {
-  rests = reads_then (state g.S.Store c.args.tables.now.conn) (state g.S.Store c.can_ask.new.tables.conn) (state g.S.Store c.can_ask-2.new.tables.conn) c.in_ok-can_ask.ensures.asks.rests c.in_ok-can_ask-2.ensures.asks.rests;
+  rests = reads_then (g.C.Database.state c.args.tables.now.conn) (g.C.Database.state c.can_ask.new.tables.conn) (g.C.Database.state c.can_ask-2.new.tables.conn) c.in_ok-can_ask.ensures.asks.rests c.in_ok-can_ask-2.ensures.asks.rests;
   same = λ clean. c.in_ok-can_ask-2.ensures.asks.same clean ∙ c.in_ok-can_ask.ensures.asks.same (c.in_ok-can_ask-2.ensures.asks.rests.clean clean);
   asked = λ clean each.
-      let a = (state g.S.Store c.args.tables.now.conn).now in
+      let a = (g.C.Database.state c.args.tables.now.conn).now in
       let mid = c.in_ok-can_ask-2.ensures.asks.rests.clean clean in
       neither a.schema ((c.in_ok-can_ask.ensures.asks.asked mid).0 c.if-not-branch.false) (λ own.
       off_on _ c.if-branch.false ((c.in_ok-can_ask-2.ensures.asks.asked clean).1 (subst (λ (d : Database). CanBeAsked d.schema c.query.result.now) (sym (c.in_ok-can_ask.ensures.asks.same mid)) (subst (CanBeAsked a.schema) (sym c.query.ensures) own))));

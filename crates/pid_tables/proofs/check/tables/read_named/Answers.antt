@@ -1,5 +1,4 @@
 use Rattle.std.proofs.Common.{inl, inr, refl, subst}
-use Rattle.sqlite.specs.Held.{state}
 use Rattle.sqlite.specs.State.{HasCleanDisk}
 use Rattle.pid_tables.specs.Rows.Faults.{IsMemoryOrStore}
 use Rattle.pid_tables.specs.declared.rows.schema_version.Version.{Version}
@@ -27,9 +26,9 @@ returns-in-One g c = record {
 
 pub returns-in_err-dated-in-Two : goal.returns-in_err-dated-in-Two
 returns-in_err-dated-in-Two g c = record {
-  rests = reads_then (state g.S.Store c.args.tables.now.conn) (state g.S.Store c.read_items.new.tables.conn) (state g.S.Store c.read_sinces.new.tables.conn) c.read_items.ensures.rests c.read_sinces.ensures.rests;
+  rests = reads_then (g.C.Database.state c.args.tables.now.conn) (g.C.Database.state c.read_items.new.tables.conn) (g.C.Database.state c.read_sinces.new.tables.conn) c.read_items.ensures.rests c.read_sinces.ensures.rests;
   told = λ clean d is has.
-      let mid : HasCleanDisk (state g.S.Store c.read_items.new.tables.conn) = c.read_sinces.ensures.rests.clean clean in
+      let mid : HasCleanDisk (g.C.Database.state c.read_items.new.tables.conn) = c.read_sinces.ensures.rests.clean clean in
       let one = c.in_ok-items.ensures.keeps mid d is (tables_each _ d.schema has _ (inr (inr (inl refl)))) in
       let tables = subst (λ (v : Version). HasTables v d.schema) c.in-Two.is has in
       passed_on c.from_residual-in_err-dated-in-Two.result _ _ IsMemoryOrStore c.from_residual-in_err-dated-in-Two.ensures.1 (c.in_err-dated-in-Two.ensures.keeps clean d one.1 tables.2);
@@ -37,9 +36,9 @@ returns-in_err-dated-in-Two g c = record {
 
 pub returns : goal.returns
 returns g c = record {
-  rests = reads_then (state g.S.Store c.args.tables.now.conn) (state g.S.Store c.read_items.new.tables.conn) (state g.S.Store c.read_sinces.new.tables.conn) c.read_items.ensures.rests c.read_sinces.ensures.rests;
+  rests = reads_then (g.C.Database.state c.args.tables.now.conn) (g.C.Database.state c.read_items.new.tables.conn) (g.C.Database.state c.read_sinces.new.tables.conn) c.read_items.ensures.rests c.read_sinces.ensures.rests;
   told = λ clean d is has.
-      let mid : HasCleanDisk (state g.S.Store c.read_items.new.tables.conn) = c.read_sinces.ensures.rests.clean clean in
+      let mid : HasCleanDisk (g.C.Database.state c.read_items.new.tables.conn) = c.read_sinces.ensures.rests.clean clean in
       let one = c.in_ok-items.ensures.keeps mid d is (tables_each _ d.schema has _ (inr (inr (inl refl)))) in
       let tables = subst (λ (v : Version). HasTables v d.schema) c.in-Two.is has in
       let two = c.in_ok-dated-in-Two.ensures.keeps clean d one.1 tables.2 in

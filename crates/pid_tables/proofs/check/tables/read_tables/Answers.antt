@@ -1,5 +1,4 @@
 use Rattle.std.proofs.Common.{inl, inr, refl}
-use Rattle.sqlite.specs.Held.{state}
 use Rattle.sqlite.specs.State.{HasCleanDisk}
 use Rattle.pid_tables.specs.Rows.Faults.{IsMemoryOrStore}
 use Rattle.pid_tables.proofs.OfRows.CauseLemmas.{passed_on}
@@ -17,9 +16,9 @@ returns-in_err-submitted g c = record {
 pub returns-in_err-named : goal.returns-in_err-named
 returns-in_err-named g c = record {
   rests =
-      reads_then (state g.S.Store c.args.tables.now.conn) (state g.S.Store c.read_submitted.new.tables.conn) (state g.S.Store c.read_named.new.tables.conn) c.read_submitted.ensures.rests c.read_named.ensures.rests;
+      reads_then (g.C.Database.state c.args.tables.now.conn) (g.C.Database.state c.read_submitted.new.tables.conn) (g.C.Database.state c.read_named.new.tables.conn) c.read_submitted.ensures.rests c.read_named.ensures.rests;
   told = λ clean d is has.
-      let mid : HasCleanDisk (state g.S.Store c.read_submitted.new.tables.conn) = c.read_named.ensures.rests.clean clean in
+      let mid : HasCleanDisk (g.C.Database.state c.read_submitted.new.tables.conn) = c.read_named.ensures.rests.clean clean in
       let one = c.in_ok-submitted.ensures.told mid d is (tables_each _ d.schema has) in
       passed_on c.from_residual-in_err-named.result _ _ IsMemoryOrStore c.from_residual-in_err-named.ensures.1 (c.in_err-named.ensures.told clean d one.1 has);
 }
@@ -27,13 +26,13 @@ returns-in_err-named g c = record {
 pub returns-in_err-remarks : goal.returns-in_err-remarks
 returns-in_err-remarks g c = record {
   rests =
-      let a = state g.S.Store c.args.tables.now.conn in
-      let mid = state g.S.Store c.read_submitted.new.tables.conn in
-      let late = state g.S.Store c.read_named.new.tables.conn in
-      reads_then a late (state g.S.Store c.read_remarks.new.tables.conn) (reads_then a mid late c.read_submitted.ensures.rests c.read_named.ensures.rests) c.read_remarks.ensures.rests;
+      let a = g.C.Database.state c.args.tables.now.conn in
+      let mid = g.C.Database.state c.read_submitted.new.tables.conn in
+      let late = g.C.Database.state c.read_named.new.tables.conn in
+      reads_then a late (g.C.Database.state c.read_remarks.new.tables.conn) (reads_then a mid late c.read_submitted.ensures.rests c.read_named.ensures.rests) c.read_remarks.ensures.rests;
   told = λ clean d is has.
-      let late : HasCleanDisk (state g.S.Store c.read_named.new.tables.conn) = c.read_remarks.ensures.rests.clean clean in
-      let mid : HasCleanDisk (state g.S.Store c.read_submitted.new.tables.conn) = c.read_named.ensures.rests.clean late in
+      let late : HasCleanDisk (g.C.Database.state c.read_named.new.tables.conn) = c.read_remarks.ensures.rests.clean clean in
+      let mid : HasCleanDisk (g.C.Database.state c.read_submitted.new.tables.conn) = c.read_named.ensures.rests.clean late in
       let one = c.in_ok-submitted.ensures.told mid d is (tables_each _ d.schema has) in
       let two = c.in_ok-named.ensures.told late d one.1 has in
       passed_on c.from_residual-in_err-remarks.result _ _ IsMemoryOrStore c.from_residual-in_err-remarks.ensures.1 (c.in_err-remarks.ensures.keeps clean d two.1 (tables_each _ d.schema has _ (inr (inr (inr (inr (inl refl)))))));
@@ -42,13 +41,13 @@ returns-in_err-remarks g c = record {
 pub returns : goal.returns
 returns g c = record {
   rests =
-      let a = state g.S.Store c.args.tables.now.conn in
-      let mid = state g.S.Store c.read_submitted.new.tables.conn in
-      let late = state g.S.Store c.read_named.new.tables.conn in
-      reads_then a late (state g.S.Store c.read_remarks.new.tables.conn) (reads_then a mid late c.read_submitted.ensures.rests c.read_named.ensures.rests) c.read_remarks.ensures.rests;
+      let a = g.C.Database.state c.args.tables.now.conn in
+      let mid = g.C.Database.state c.read_submitted.new.tables.conn in
+      let late = g.C.Database.state c.read_named.new.tables.conn in
+      reads_then a late (g.C.Database.state c.read_remarks.new.tables.conn) (reads_then a mid late c.read_submitted.ensures.rests c.read_named.ensures.rests) c.read_remarks.ensures.rests;
   told = λ clean d is has.
-      let late : HasCleanDisk (state g.S.Store c.read_named.new.tables.conn) = c.read_remarks.ensures.rests.clean clean in
-      let mid : HasCleanDisk (state g.S.Store c.read_submitted.new.tables.conn) = c.read_named.ensures.rests.clean late in
+      let late : HasCleanDisk (g.C.Database.state c.read_named.new.tables.conn) = c.read_remarks.ensures.rests.clean clean in
+      let mid : HasCleanDisk (g.C.Database.state c.read_submitted.new.tables.conn) = c.read_named.ensures.rests.clean late in
       let one = c.in_ok-submitted.ensures.told mid d is (tables_each _ d.schema has) in
       let two = c.in_ok-named.ensures.told late d one.1 has in
       let three = c.in_ok-remarks.ensures.keeps clean d two.1 (tables_each _ d.schema has _ (inr (inr (inr (inr (inl refl)))))) in

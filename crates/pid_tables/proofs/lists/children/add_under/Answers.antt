@@ -1,5 +1,4 @@
 use Rattle.std.proofs.Common.{◌≡◌, ◌++◌, ◌∙◌, Ok, map, refl}
-use Rattle.sqlite.specs.Held.{state}
 use Rattle.pid_moderation.specs.ItemPairs.{pair_of}
 use Rattle.pid_tables.specs.Rows.Causes.{IsCaused, IsReadable}
 use Rattle.pid_tables.specs.Rows.Shows.{AreViews, counts_of}
@@ -20,11 +19,11 @@ pub returns : goal.returns
 returns g c = record {
   rests = c.in_ok-rows.ensures.rests;
   told = λ clean v rest.
-      let old = state g.S.Store c.args.tables.now.conn in
-      let new = state g.S.Store c.read_rows.new.tables.conn in
+      let old = g.C.Database.state c.args.tables.now.conn in
+      let new = g.C.Database.state c.read_rows.new.tables.conn in
       let low = c.in_ok-range.range.low.items in
       let high = c.in_ok-range.range.high.items in
-      let found = at_rest g.S.Store c.args.tables.now.conn new v select_range _ (Ok c.in_ok-rows.rows) (λ rows. rows.items) (λ rows. AreViews v × (rows.items ≡ map item_shown (between low high v.items))) rest
+      let found = at_rest g.C.Database.state c.args.tables.now.conn new v select_range _ (Ok c.in_ok-rows.rows) (λ rows. rows.items) (λ rows. AreViews v × (rows.items ≡ map item_shown (between low high v.items))) rest
       (λ mid rows shows h. (shows.views, range_found _ (counts_of v) v shows low high _ mid refl rows.items h))
       (rw (c.as_slice.ensures.value, c.as_slice-2.ensures.value) at (c.in_ok-rows.ensures.shown clean)) tt in
       read_or_caused old new v c.add_children.result _ _ (λ readable. kept_items (λ e. is_between low high e.0) v.items readable.items)
@@ -36,9 +35,9 @@ pub returns-in_err-rows : goal.returns-in_err-rows
 returns-in_err-rows g c = record {
   rests = c.in_err-rows.ensures.rests;
   told = λ clean v rest.
-      passed_on c.from_residual-in_err-rows.result _ _ (λ fault. IsReadable v → IsCaused (state g.S.Store c.args.tables.now.conn) (state g.S.Store c.read_rows.new.tables.conn) fault) c.from_residual-in_err-rows.ensures.1
+      passed_on c.from_residual-in_err-rows.result _ _ (λ fault. IsReadable v → IsCaused (g.C.Database.state c.args.tables.now.conn) (g.C.Database.state c.read_rows.new.tables.conn) fault) c.from_residual-in_err-rows.ensures.1
       (λ readable. c.in_err-rows.ensures.faults.caused clean pid_schema (λ opened. (rest.shows opened).schema) (rw (c.as_slice.ensures.value, c.as_slice-2.ensures.value) (range_query c.in_ok-range.range.low.items c.in_ok-range.range.high.items)));
 }
 
 pub returns-in_err-range : goal.returns-in_err-range
-returns-in_err-range g c = no_memory g.S.Store c.args.tables.now.conn c.args.tables.now.conn c.from_residual.result c.from_residual.ensures.1 (nothing_read (state g.S.Store c.args.tables.now.conn) c.args.tables.now.settled)
+returns-in_err-range g c = no_memory g.C.Database.state c.args.tables.now.conn c.args.tables.now.conn c.from_residual.result c.from_residual.ensures.1 (nothing_read (g.C.Database.state c.args.tables.now.conn) c.args.tables.now.settled)

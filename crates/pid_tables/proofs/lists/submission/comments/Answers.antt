@@ -1,5 +1,4 @@
 use Rattle.std.proofs.Common.{◌≡◌, ◌∙◌, Ok, map, refl}
-use Rattle.sqlite.specs.Held.{state}
 use Rattle.pid_tables.specs.Rows.Causes.{IsCaused, IsReadable}
 use Rattle.pid_tables.specs.Rows.Shows.{counts_of}
 use Rattle.pid_tables.specs.Rows.Steps.Answers.{remark_shown}
@@ -14,9 +13,9 @@ pub returns : goal.returns
 returns g c = record {
   rests = c.in_ok-rows.ensures.rests;
   told = λ clean v rest.
-      let old = state g.S.Store c.args.tables.now.conn in
-      let new = state g.S.Store c.read_rows.new.tables.conn in
-      let found = at_rest g.S.Store c.args.tables.now.conn new v select_remarks _ (Ok c.in_ok-rows.rows) (λ rows. rows.items) (λ rows. rows.items ≡ map remark_shown (v.remarks c.args.number)) rest
+      let old = g.C.Database.state c.args.tables.now.conn in
+      let new = g.C.Database.state c.read_rows.new.tables.conn in
+      let found = at_rest g.C.Database.state c.args.tables.now.conn new v select_remarks _ (Ok c.in_ok-rows.rows) (λ rows. rows.items) (λ rows. rows.items ≡ map remark_shown (v.remarks c.args.number)) rest
       (λ mid rows shows h. remarks_found _ (counts_of v) v shows c.args.number _ mid refl rows.items h) (rw c.to_sql-number.ensures at (c.in_ok-rows.ensures.shown clean)) tt in
       read_or_caused old new v c.comments_of.result _ _ (λ readable. readable.remarks c.args.number) (λ x h. h)
       (c.comments_of.ensures (v.remarks c.args.number) (c.as_slice.ensures.value ∙ found));
@@ -26,6 +25,6 @@ pub returns-in_err-rows : goal.returns-in_err-rows
 returns-in_err-rows g c = record {
   rests = c.in_err-rows.ensures.rests;
   told = λ clean v rest.
-      passed_on c.from_residual.result _ _ (λ fault. IsReadable v → IsCaused (state g.S.Store c.args.tables.now.conn) (state g.S.Store c.read_rows.new.tables.conn) fault) c.from_residual.ensures.1
+      passed_on c.from_residual.result _ _ (λ fault. IsReadable v → IsCaused (g.C.Database.state c.args.tables.now.conn) (g.C.Database.state c.read_rows.new.tables.conn) fault) c.from_residual.ensures.1
       (λ readable. (rw c.to_sql-number.ensures at (c.in_err-rows.ensures.faults.caused clean pid_schema (λ opened. (rest.shows opened).schema))) (remarks_query c.args.number));
 }

@@ -1,7 +1,6 @@
 use Rattle.std.proofs.Common.{ℕ, ◌<◌, ◌^◌, ◌∷◌, ◌++◌, [], List, ap, arith, length, map, refl, sym, take, ◌∙◌, take_all}
 use Rattle.std.proofs.lemmas.List.{length-map, map-append}
 use Rattle.std.proofs.lemmas.List.Elements.{filter_map-append}
-use Rattle.sqlite.specs.Held.{state}
 use Rattle.sqlite.specs.Order.{Row}
 use Rattle.sqlite_rules.proofs.ListLemmas.{all_has}
 use Rattle.pid_moderation.specs.SubmissionPages.{listed_of, Listing, listing_in}
@@ -48,9 +47,9 @@ returns-in_err-add_listed g c = record {
   told = λ clean v listed rest are.
       let one = c.in_err-add_listed.ensures in
       let before = c.loop-row.invariant in
-      let old = state g.S.Store c.args.tables.now.conn in
-      let mid = state g.S.Store c.loop-row.tables.conn in
-      let new = state g.S.Store c.add_listed.new.tables.conn in
+      let old = g.C.Database.state c.args.tables.now.conn in
+      let mid = g.C.Database.state c.loop-row.tables.conn in
+      let new = g.C.Database.state c.add_listed.new.tables.conn in
       let next = next_of value_row are.numbers c.args.rows.now c.loop-row.row-index c.row-item.result are.shown c.loop-row-test.true in
       let row = listed_next v listed c.args.rows.now are _ c.loop-row.row-index next in
       passed_on c.from_residual.result _ _ (λ fault. IsReadable v → IsCaused old new fault) c.from_residual.ensures.1
@@ -59,4 +58,4 @@ returns-in_err-add_listed g c = record {
 }
 
 pub loop-row-init : goal.loop-row-init
-loop-row-init g c = (nothing_read (state g.S.Store c.args.tables.now.conn) c.args.tables.now.settled, λ clean v listed rest are. ap (map listed_of) c.new-page.ensures.items)
+loop-row-init g c = (nothing_read (g.C.Database.state c.args.tables.now.conn) c.args.tables.now.settled, λ clean v listed rest are. ap (map listed_of) c.new-page.ensures.items)

@@ -8,6 +8,6 @@ use Rattle.pid_tables.proofs.lists.submissions.listed_at.Given as goal
 
 abbrev pub invariant-loop-row : goal.invariant-loop-row
 invariant-loop-row g l =
-    OnlyReads g.S.Store l.initial.tables.conn l.tables.conn
-    × (HasCleanDisk g.S.Store l.tables.conn → (v : Views) (listed : List Listing) → AtRest g.S.Store l.initial.tables.conn v → (are : AreListedIn v listed l.rows)
+    OnlyReads g.C.Database.state l.initial.tables.conn l.tables.conn
+    × (HasCleanDisk g.C.Database.state l.tables.conn → (v : Views) (listed : List Listing) → AtRest g.C.Database.state l.initial.tables.conn v → (are : AreListedIn v listed l.rows)
     → map listed_of l.page.items ≡ map (listing_in v) (standings_at (take l.row-index are.numbers) v))

@@ -1,7 +1,6 @@
 use Rattle.std.proofs.Common.{◌≡◌, ◌∙◌, sym, subst, false, None, Some, Option, refl, inl, inr, IsSome}
 use Rattle.std.specs.Prelude.{is_none}
 use Rattle.std.proofs.lemmas.Bool.{cases_Bool}
-use Rattle.sqlite.specs.Held.{state}
 use Rattle.sqlite.specs.Listing.{understood}
 use Rattle.pid_tables.specs.declared.rows.schema_version.Version.TheVariants.{Two}
 use Rattle.pid_tables.specs.Rows.Schema.{pid_schema}
@@ -21,8 +20,8 @@ returns g c = record {
   same_reference = c.write_one.ensures.same_reference;
   goes = c.write_one.ensures.goes;
   shows = λ clean inside counts v shows fits.
-      let old = state g.S.Store c.args.tx.now.conn.now in
-      let new = state g.S.Store c.write_one.new.tx.conn.now in
+      let old = g.B.Batch.batch.state c.args.tx.now in
+      let new = g.B.Batch.batch.state c.write_one.new.self in
       let who = c.args.who.now in
       elim (cases_Bool c.args.is_new) [
         | inl is_new ↦

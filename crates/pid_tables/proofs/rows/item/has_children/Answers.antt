@@ -1,5 +1,4 @@
 use Rattle.std.proofs.Common.{◌≡◌, ◌++◌, ◌∙◌, ap, codes, sym}
-use Rattle.sqlite.specs.Held.{state}
 use Rattle.pid_ident.specs.PathTexts.{path_text}
 use Rattle.pid_moderation.specs.Items.{has_children}
 use Rattle.pid_moderation.specs.WellMade.{AllItems, HoldsParents}
@@ -29,7 +28,7 @@ returns-in-Vendor g c = record {
       let below = first.told (second.rests.clean clean) v rest in
       let text = c.as_bytes.ensures.value ∙ c.in_ok-text.ensures in
       let digits = c.as_slice.ensures ∙ c.hex4.ensures in
-      told_then (state g.S.Store c.args.tables.now.conn) (state g.S.Store c.any_below-below.new.tables.conn) (state g.S.Store c.any_below.new.tables.conn) v c.any_below.result
+      told_then (g.C.Database.state c.args.tables.now.conn) (g.C.Database.state c.any_below-below.new.tables.conn) (g.C.Database.state c.any_below.new.tables.conn) v c.any_below.result
       (λ some. AreViews v × (some ≡ holds_under (codes "PS/" ++ c.as_slice.result.now) v.items)) (λ some. AllItems v.items → HoldsParents v.items → some ≡ has_children (path_text c.args.path) v.items)
       first.rests second.rests clean
       (λ some generic all parents. generic_children v.items below.0.sorted all parents c.args.path c.in-Vendor.vendor some c.in-Vendor.is (sym (below.1 ∙ ap (λ t. holds_under t v.items) text) ∙ c.if-branch.false) (generic.1 ∙ ap (λ d. holds_under (codes "PS/" ++ d) v.items) digits))
@@ -46,7 +45,7 @@ returns-in_default g c = record {
 }
 
 pub returns-in_err-text : goal.returns-in_err-text
-returns-in_err-text g c = no_memory g.S.Store c.args.tables.now.conn c.args.tables.now.conn c.from_residual.result c.from_residual.ensures.1 (nothing_read (state g.S.Store c.args.tables.now.conn) c.args.tables.now.settled)
+returns-in_err-text g c = no_memory g.C.Database.state c.args.tables.now.conn c.args.tables.now.conn c.from_residual.result c.from_residual.ensures.1 (nothing_read (g.C.Database.state c.args.tables.now.conn) c.args.tables.now.settled)
 
 pub returns-in_err-below : goal.returns-in_err-below
-returns-in_err-below g c = fault_first g.S.Store c.args.tables.now.conn c.any_below-below.new.tables.conn c.in_err-below.field-0.0 c.from_residual-in_err-below.result c.from_residual-in_err-below.ensures.1 c.in_err-below.ensures
+returns-in_err-below g c = fault_first g.C.Database.state c.args.tables.now.conn c.any_below-below.new.tables.conn c.in_err-below.field-0.0 c.from_residual-in_err-below.result c.from_residual-in_err-below.ensures.1 c.in_err-below.ensures

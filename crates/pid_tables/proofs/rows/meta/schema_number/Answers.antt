@@ -1,5 +1,4 @@
 use Rattle.std.proofs.Common.{codes, refl, Ok, Err, Result, IfOk, IfErr, MatchResult}
-use Rattle.sqlite.specs.Held.{state}
 use Rattle.pid_tables.proofs.OfRows.LabelLemmas.{told_stored, refused_stored}
 use Rattle.pid_tables.proofs.ThenReads.{read_number}
 use Rattle.pid_tables.proofs.rows.meta.schema_number.Goals as goal
@@ -13,12 +12,12 @@ returns-clause-shown g c clean = both c.count.result _ _ (c.count.ensures.shown 
 
 pub returns-clause-stored : goal.returns-clause-stored
 returns-clause-stored g c clean made =
-    let db = (state g.S.Store c.args.tables.now.conn).now in
+    let db = (g.C.Database.state c.args.tables.now.conn).now in
     both c.count.result _ _ (told_stored db made (codes "schema") c.count.result (c.count.ensures.shown clean))
     (refused_stored db made (codes "schema") c.count.result (c.count.ensures.refused clean))
 
 pub returns-clause-reads : goal.returns-clause-reads
-returns-clause-reads g c = read_number g.S.Store c.args.tables.now.conn c.count.new.tables.conn c.count.result (λ v. 2) c.count.ensures.rests (c.count.ensures.found (λ counts. refl))
+returns-clause-reads g c = read_number g.C.Database.state c.args.tables.now.conn c.count.new.tables.conn c.count.result (λ v. 2) c.count.ensures.rests (c.count.ensures.found (λ counts. refl))
 
 pub returns-clause-never : goal.returns-clause-never
 returns-clause-never g c = c.count.ensures.never

@@ -1,4 +1,3 @@
-use Rattle.sqlite.specs.Held.{state}
 use Rattle.pid_tables.specs.Rows.Faults.{IsMemoryOrStore}
 use Rattle.pid_tables.specs.Rows.Schema.{pid_schema}
 use Rattle.pid_tables.specs.declared.rows.schema_version.Version.TheVariants.{Two}
@@ -15,8 +14,8 @@ returns g c = record {
   same_reference = c.write_one.ensures.same_reference;
   goes = c.write_one.ensures.goes;
   shows = λ clean inside counts v shows fits.
-      let old = state g.S.Store c.args.tx.now.conn.now in
-      let new = state g.S.Store c.write_one.new.tx.conn.now in
+      let old = g.B.Batch.batch.state c.args.tx.now in
+      let new = g.B.Batch.batch.state c.write_one.new.self in
       led c.write_one.result (revision_written old new counts v shows c.args.revision)
       (rw (c.to_sql-label.ensures, c.in_ok-value.ensures) at (c.write_one.ensures.runs.ran clean inside)) (c.write_one.ensures.runs.only_store clean pid_schema (λ opened. shows.schema) (update_writes (update_meta_is Two)));
 }
@@ -24,6 +23,6 @@ returns g c = record {
 pub returns-in_err-value : goal.returns-in_err-value
 returns-in_err-value g c = record {
   same_reference = refl;
-  goes = goes_nowhere (state g.S.Store c.args.tx.now.conn.now) _ c.from_residual.result c.from_residual.ensures.1;
+  goes = goes_nowhere (g.B.Batch.batch.state c.args.tx.now) _ c.from_residual.result c.from_residual.ensures.1;
   shows = λ clean inside counts v shows fits. passed_on c.from_residual.result _ _ IsMemoryOrStore c.from_residual.ensures.1 c.in_err-value.ensures;
 }

@@ -1,5 +1,4 @@
 use Rattle.std.proofs.Common.{◌≡◌, ◌⊎◌, ◌∙◌, [], ◌∷◌, ap, slice_get, length}
-use Rattle.sqlite.specs.Held.{state}
 use Rattle.pid_tables.specs.declared.rows.schema_version.Version.TheVariants.{Two}
 use Rattle.pid_tables.specs.Rows.Causes.{IsCaused, IsReadable}
 use Rattle.pid_tables.specs.Rows.Shows.{counts_of}
@@ -18,8 +17,8 @@ returns-in-Some g c = record {
   told = λ clean v rest.
       let rows = c.in_ok-rows.rows.items in
       let last = length (v.remarks c.args.number) in
-      let found = rows_at_rest g.S.Store c.args.tables.now.conn v select_last _ rows (((rows ≡ []) × (last ≡ 0)) ⊎ (rows ≡ value_row last ∷ [])) rest (λ mid shows h. last_found _ mid (counts_of v) v shows c.args.number rows h) (rw c.to_sql-number.ensures at (c.in_ok-rows.ensures.shown clean)) in
-      number_read (state g.S.Store c.args.tables.now.conn) (state g.S.Store c.read_rows.new.tables.conn) v c.in-Some.row.now c.number_at.result last
+      let found = rows_at_rest g.C.Database.state c.args.tables.now.conn v select_last _ rows (((rows ≡ []) × (last ≡ 0)) ⊎ (rows ≡ value_row last ∷ [])) rest (λ mid shows h. last_found _ mid (counts_of v) v shows c.args.number rows h) (rw c.to_sql-number.ensures at (c.in_ok-rows.ensures.shown clean)) in
+      number_read (g.C.Database.state c.args.tables.now.conn) (g.C.Database.state c.read_rows.new.tables.conn) v c.in-Some.row.now c.number_at.result last
       (only_row rows c.in-Some.row.now (value_row last) (c.in-Some.ensures.value ∙ ap (λ l. slice_get l 0) c.deref.ensures.value) found)
       (λ readable. readable.remark_count c.args.number) c.number_at.ensures.read c.number_at.ensures.unread;
 }
@@ -30,7 +29,7 @@ returns g c = record {
   told = λ clean v rest.
       let rows = c.in_ok-rows.rows.items in
       let last = length (v.remarks c.args.number) in
-      let found = rows_at_rest g.S.Store c.args.tables.now.conn v select_last _ rows (((rows ≡ []) × (last ≡ 0)) ⊎ (rows ≡ value_row last ∷ [])) rest (λ mid shows h. last_found _ mid (counts_of v) v shows c.args.number rows h) (rw c.to_sql-number.ensures at (c.in_ok-rows.ensures.shown clean)) in
+      let found = rows_at_rest g.C.Database.state c.args.tables.now.conn v select_last _ rows (((rows ≡ []) × (last ≡ 0)) ⊎ (rows ≡ value_row last ∷ [])) rest (λ mid shows h. last_found _ mid (counts_of v) v shows c.args.number rows h) (rw c.to_sql-number.ensures at (c.in_ok-rows.ensures.shown clean)) in
       no_only rows last (c.in-None.ensures.value ∙ ap (λ l. slice_get l 0) c.deref.ensures.value) found;
 }
 
@@ -38,6 +37,6 @@ pub returns-in_err-rows : goal.returns-in_err-rows
 returns-in_err-rows g c = record {
   rests = c.in_err-rows.ensures.rests;
   told = λ clean v rest.
-      passed_on c.from_residual.result _ _ (λ fault. IsReadable v → IsCaused (state g.S.Store c.args.tables.now.conn) (state g.S.Store c.read_rows.new.tables.conn) fault) c.from_residual.ensures.1
+      passed_on c.from_residual.result _ _ (λ fault. IsReadable v → IsCaused (g.C.Database.state c.args.tables.now.conn) (g.C.Database.state c.read_rows.new.tables.conn) fault) c.from_residual.ensures.1
       (λ readable. (rw c.to_sql-number.ensures at (c.in_err-rows.ensures.faults.caused clean pid_schema (λ opened. (rest.shows opened).schema))) (last_query Two c.args.number));
 }

@@ -1,5 +1,4 @@
 use Rattle.std.proofs.Common.{◌∙◌, ap, slice_get}
-use Rattle.sqlite.specs.Held.{state}
 use Rattle.pid_tables.specs.declared.rows.schema_version.Version.TheVariants.{Two}
 use Rattle.pid_tables.specs.Rows.Causes.{IsCaused, IsReadable}
 use Rattle.pid_tables.specs.Rows.Schema.{pid_schema}
@@ -17,7 +16,7 @@ pub returns-in-Some : goal.returns-in-Some
 returns-in-Some g c = record {
   rests = c.in_ok-rows.ensures.rests;
   told = λ clean v rest.
-      let found = standing_first g.S.Store c.args.tables.now.conn v rest c.in_ok-rows.rows.items c.args.number (rw c.to_sql-number.ensures at (c.in_ok-rows.ensures.shown clean)) in
+      let found = standing_first g.C.Database.state c.args.tables.now.conn v rest c.in_ok-rows.rows.items c.args.number (rw c.to_sql-number.ensures at (c.in_ok-rows.ensures.shown clean)) in
       standing_read c.texts_have_one_path.ensures v c.args.number c.in-Some.row.now _ found.0 (c.in-Some.ensures.value ∙ ap (λ l. slice_get l 0) c.deref.ensures.value ∙ found.1) c.in_ok-submission_of-in-Some.ensures.read;
 }
 
@@ -25,7 +24,7 @@ pub returns : goal.returns
 returns g c = record {
   rests = c.in_ok-rows.ensures.rests;
   told = λ clean v rest.
-      let found = standing_first g.S.Store c.args.tables.now.conn v rest c.in_ok-rows.rows.items c.args.number (rw c.to_sql-number.ensures at (c.in_ok-rows.ensures.shown clean)) in
+      let found = standing_first g.C.Database.state c.args.tables.now.conn v rest c.in_ok-rows.rows.items c.args.number (rw c.to_sql-number.ensures at (c.in_ok-rows.ensures.shown clean)) in
       no_row standing_row (standing_in v c.args.number) (c.in-None.ensures.value ∙ ap (λ l. slice_get l 0) c.deref.ensures.value ∙ found.1);
 }
 
@@ -33,9 +32,9 @@ pub returns-in_err-submission_of-in-Some : goal.returns-in_err-submission_of-in-
 returns-in_err-submission_of-in-Some g c = record {
   rests = c.in_ok-rows.ensures.rests;
   told = λ clean v rest.
-      let old = state g.S.Store c.args.tables.now.conn in
-      let new = state g.S.Store c.read_rows.new.tables.conn in
-      let found = standing_first g.S.Store c.args.tables.now.conn v rest c.in_ok-rows.rows.items c.args.number (rw c.to_sql-number.ensures at (c.in_ok-rows.ensures.shown clean)) in
+      let old = g.C.Database.state c.args.tables.now.conn in
+      let new = g.C.Database.state c.read_rows.new.tables.conn in
+      let found = standing_first g.C.Database.state c.args.tables.now.conn v rest c.in_ok-rows.rows.items c.args.number (rw c.to_sql-number.ensures at (c.in_ok-rows.ensures.shown clean)) in
       passed_on c.from_residual-in_err-submission_of-in-Some.result _ _ (λ fault. IsReadable v → IsCaused old new fault) c.from_residual-in_err-submission_of-in-Some.ensures.1
       (λ readable. caused_unread old new c.in_err-submission_of-in-Some.field-0.0 (standing_written v c.args.number c.in-Some.row.now readable (c.in-Some.ensures.value ∙ ap (λ l. slice_get l 0) c.deref.ensures.value ∙ found.1)) c.in_err-submission_of-in-Some.ensures.unread);
 }
@@ -44,6 +43,6 @@ pub returns-in_err-rows : goal.returns-in_err-rows
 returns-in_err-rows g c = record {
   rests = c.in_err-rows.ensures.rests;
   told = λ clean v rest.
-      passed_on c.from_residual.result _ _ (λ fault. IsReadable v → IsCaused (state g.S.Store c.args.tables.now.conn) (state g.S.Store c.read_rows.new.tables.conn) fault) c.from_residual.ensures.1
+      passed_on c.from_residual.result _ _ (λ fault. IsReadable v → IsCaused (g.C.Database.state c.args.tables.now.conn) (g.C.Database.state c.read_rows.new.tables.conn) fault) c.from_residual.ensures.1
       (λ readable. (rw c.to_sql-number.ensures at (c.in_err-rows.ensures.faults.caused clean pid_schema (λ opened. (rest.shows opened).schema))) (submission_query Two c.args.number));
 }

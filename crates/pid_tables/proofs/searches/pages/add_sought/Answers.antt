@@ -1,6 +1,5 @@
 use Rattle.std.proofs.Common.{◌≡◌, ◌∷◌, [], Some, Option, List, ℕ, true, false, sym, ◌∙◌}
 use Rattle.std.specs.Option.{option_copied}
-use Rattle.sqlite.specs.Held.{state}
 use Rattle.pid_file.specs.declared.path.Path.{Path}
 use Rattle.pid_moderation.specs.SubmissionPages.{listed_of}
 use Rattle.pid_moderation.specs.Submissions.{standing_in, standing_of}
@@ -44,7 +43,7 @@ returns-in-Ok g c =
           let author : Option (List ℕ) = option_copied c.args.author in
           let stands : standing_in v c.args.number ≡ Some (standing_of c.in-Some.submission) = sym (rw c.in-Some.is at (one.told (two.rests.clean clean) v rest)) in
           let count = two.told clean v (one.rests.kept v rest) in
-          kept_one listed_of c.args.page.now.items c.push_last.new.list.items _ _ c.push_last.result (state g.S.Store c.args.tables.now.conn) (state g.S.Store c.remark_count.new.tables.conn) v c.push_last.ensures.items c.push_last.ensures.full
+          kept_one listed_of c.args.page.now.items c.push_last.new.list.items _ _ c.push_last.result (g.C.Database.state c.args.tables.now.conn) (g.C.Database.state c.remark_count.new.tables.conn) v c.push_last.ensures.items c.push_last.ensures.full
           ((λ i. record { number = c.args.number; standing = standing_of c.in-Some.submission; remarks = count i } ∷ [])
           ∙ sym (one_found path author v c.args.number (standing_of c.in-Some.submission) stands (sym c.is_of.ensures ∙ of_it)));
     }
@@ -56,8 +55,8 @@ returns-in-Err g c =
     record {
       rests = reads_then _ _ _ one.rests two.rests;
       told = λ clean v rest readable.
-          caused_later (state g.S.Store c.args.tables.now.conn) (state g.S.Store c.standing.new.tables.conn) (state g.S.Store c.remark_count.new.tables.conn) (λ _. ⊥) c.in-Err.fault one.rests.survives two.rests.survives.counts (two.rests.clean clean) (two.told clean v (one.rests.kept v rest) readable);
+          caused_later (g.C.Database.state c.args.tables.now.conn) (g.C.Database.state c.standing.new.tables.conn) (g.C.Database.state c.remark_count.new.tables.conn) (λ _. ⊥) c.in-Err.fault one.rests.survives two.rests.survives.counts (two.rests.clean clean) (two.told clean v (one.rests.kept v rest) readable);
     }
 
 pub returns-in_err-standing : goal.returns-in_err-standing
-returns-in_err-standing g c = fault_first g.S.Store c.args.tables.now.conn c.standing.new.tables.conn c.in_err-standing.field-0.0 c.from_residual.result c.from_residual.ensures.1 c.in_err-standing.ensures
+returns-in_err-standing g c = fault_first g.C.Database.state c.args.tables.now.conn c.standing.new.tables.conn c.in_err-standing.field-0.0 c.from_residual.result c.from_residual.ensures.1 c.in_err-standing.ensures

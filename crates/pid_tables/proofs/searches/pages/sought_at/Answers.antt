@@ -1,6 +1,5 @@
 use Rattle.std.proofs.Common.{◌≡◌, length, refl, rules, arith}
 use Rattle.std.specs.Option.{option_copied}
-use Rattle.sqlite.specs.Held.{state}
 use Rattle.pid_tables.specs.Rows.Causes.{IsCaused, IsReadable}
 use Rattle.pid_tables.proofs.OfRows.CauseLemmas.{caused_later, passed_on}
 use Rattle.pid_tables.proofs.OfRows.OnlyReading.{reads_then}
@@ -30,9 +29,9 @@ pub returns-in_err-add_sought : goal.returns-in_err-add_sought
 returns-in_err-add_sought g c =
     let one = c.in_err-add_sought.ensures in
     let before = c.loop-at.invariant in
-    let old = state g.S.Store c.args.tables.now.conn in
-    let mid = state g.S.Store c.loop-at.tables.conn in
-    let new = state g.S.Store c.add_sought.new.tables.conn in
+    let old = g.C.Database.state c.args.tables.now.conn in
+    let mid = g.C.Database.state c.loop-at.tables.conn in
+    let new = g.C.Database.state c.add_sought.new.tables.conn in
     record {
       rests = reads_then _ _ _ before.0 one.rests;
       told = λ clean v rest.

@@ -6,6 +6,6 @@ use Rattle.pid_tables.proofs.searches.pages.sought_at.Given as goal
 
 abbrev pub invariant-loop-at : goal.invariant-loop-at
 invariant-loop-at g l =
-    OnlyReads g.S.Store l.initial.tables.conn l.tables.conn
-    × (HasCleanDisk g.S.Store l.tables.conn → (v : Views) → AtRest g.S.Store l.initial.tables.conn v
+    OnlyReads g.C.Database.state l.initial.tables.conn l.tables.conn
+    × (HasCleanDisk g.C.Database.state l.tables.conn → (v : Views) → AtRest g.C.Database.state l.initial.tables.conn v
     → HasFirst (option_copied l.path) (option_copied l.author) v l.numbers l.at l.page.items)

@@ -1,5 +1,4 @@
 use Rattle.std.proofs.Common.{◌∷◌, []}
-use Rattle.sqlite.specs.Held.{state}
 use Rattle.pid_moderation.specs.PendingPages.{told_of}
 use Rattle.pid_moderation.specs.QueuePages.{entry_in, queued_of}
 use Rattle.pid_moderation.specs.Submissions.{standing_of}
@@ -15,9 +14,9 @@ pub returns-in-Err-item : goal.returns-in-Err-item
 returns-in-Err-item g c =
     let one = c.in-Ok.ensures in
     let two = c.in-Err-item.ensures in
-    let old = state g.S.Store c.args.self.now.conn in
-    let mid = state g.S.Store c.remark_count.new.tables.conn in
-    let new = state g.S.Store c.item.new.self.conn in
+    let old = g.C.Database.state c.args.self.now.conn in
+    let mid = g.C.Database.state c.remark_count.new.tables.conn in
+    let new = g.C.Database.state c.item.new.self.conn in
     record {
       rests = reads_then _ _ _ one.rests two.rests;
       told = λ clean v rest readable.
@@ -33,6 +32,6 @@ returns-in-Ok-item g c =
       told = λ clean v rest.
           let count = one.told (two.rests.clean clean) v rest in
           let name = two.told clean v (one.rests.kept v rest) in
-          kept_one queued_of c.args.queue.now.items c.push_last.new.list.items _ (entry_in v (told_of c.args.pending) ∷ []) c.push_last.result (state g.S.Store c.args.self.now.conn) (state g.S.Store c.item.new.self.conn) v
+          kept_one queued_of c.args.queue.now.items c.push_last.new.list.items _ (entry_in v (told_of c.args.pending) ∷ []) c.push_last.result (g.C.Database.state c.args.self.now.conn) (g.C.Database.state c.item.new.self.conn) v
           c.push_last.ensures.items c.push_last.ensures.full (λ i. record { number = c.args.pending.number; standing = standing_of c.args.pending.submission; now = name i; remarks = count i } ∷ []);
     }

@@ -1,6 +1,5 @@
 use Rattle.std.proofs.Common.{◌≡◌, ◌∷◌, ◌++◌, [], Some, ap, arith, length, map, sym, take_all, ◌∙◌}
 use Rattle.std.proofs.lemmas.List.{length-map}
-use Rattle.sqlite.specs.Held.{state}
 use Rattle.sqlite_rules.proofs.ListLemmas.{all_has}
 use Rattle.pid_moderation.specs.Items.{name_at}
 use Rattle.pid_tables.specs.Rows.Causes.{IsCaused, IsReadable}
@@ -31,9 +30,9 @@ returns-in_err-add_changed g c = record {
   told = λ clean v all rest (named, is).
       let one = c.in_err-add_changed.ensures in
       let before = c.loop-row.invariant in
-      let old = state g.S.Store c.args.self.now.conn in
-      let mid = state g.S.Store c.loop-row.self.conn in
-      let new = state g.S.Store c.add_changed.new.self.conn in
+      let old = g.C.Database.state c.args.self.now.conn in
+      let mid = g.C.Database.state c.loop-row.self.conn in
+      let new = g.C.Database.state c.add_changed.new.self.conn in
       let next = next_of since_shown all c.args.rows.now c.loop-row.row-index c.row-item.result is c.loop-row-test.true in
       let stands = all_has (λ (item : Changed). name_at item.path v.items ≡ Some item.name) all next.it named next.there in
       passed_on c.from_residual.result _ _ (λ fault. IsReadable v → IsCaused old new fault) c.from_residual.ensures.1
@@ -49,4 +48,4 @@ returns g c = record {
 }
 
 pub loop-row-init : goal.loop-row-init
-loop-row-init g c = (nothing_read (state g.S.Store c.args.self.now.conn) c.args.self.now.settled, λ clean v all rest change. ap (map changed_of) c.new-items.ensures.items)
+loop-row-init g c = (nothing_read (g.C.Database.state c.args.self.now.conn) c.args.self.now.settled, λ clean v all rest change. ap (map changed_of) c.new-items.ensures.items)

@@ -7,6 +7,6 @@ use Rattle.pid_tables.proofs.tables.Tables.changed_items.Given as goal
 
 abbrev pub invariant-loop-row : goal.invariant-loop-row
 invariant-loop-row g l =
-    OnlyReads g.S.Store l.initial.self.conn l.self.conn
-    × (HasCleanDisk g.S.Store l.self.conn → (v : Views) (all : List Changed) → AtRest g.S.Store l.initial.self.conn v → AreChangesIn v all l.rows
+    OnlyReads g.C.Database.state l.initial.self.conn l.self.conn
+    × (HasCleanDisk g.C.Database.state l.self.conn → (v : Views) (all : List Changed) → AtRest g.C.Database.state l.initial.self.conn v → AreChangesIn v all l.rows
     → map changed_of l.items.items ≡ take l.row-index all)

@@ -1,6 +1,5 @@
 use Rattle.std.proofs.Common.{◌≡◌, ◌++◌, ◌∙◌, codes, filter, map, ap, subst, sym}
 use Rattle.std.specs.Prelude.{option_map}
-use Rattle.sqlite.specs.Held.{state}
 use Rattle.pid_moderation.specs.Children.{children_of}
 use Rattle.pid_ident.specs.PathTexts.{path_text}
 use Rattle.pid_file.specs.declared.path.Path.TheVariants.{Vendor}
@@ -43,9 +42,9 @@ pub returns-in_err-add_under-in-Vendor : goal.returns-in_err-add_under-in-Vendor
 returns-in_err-add_under-in-Vendor g c =
     let one = c.in_ok-added.ensures in
     let two = c.in_err-add_under-in-Vendor.ensures in
-    let old = state g.S.Store c.args.self.now.conn in
-    let mid = state g.S.Store c.add_under-added.new.tables.conn in
-    let new = state g.S.Store c.add_under.new.tables.conn in
+    let old = g.C.Database.state c.args.self.now.conn in
+    let mid = g.C.Database.state c.add_under-added.new.tables.conn in
+    let new = g.C.Database.state c.add_under.new.tables.conn in
     record {
       rests = reads_then _ _ _ one.rests two.rests;
       told = λ clean v rest.
@@ -54,7 +53,7 @@ returns-in_err-add_under-in-Vendor g c =
     }
 
 pub returns-in_err-text : goal.returns-in_err-text
-returns-in_err-text g c = no_memory g.S.Store c.args.self.now.conn c.args.self.now.conn c.from_residual.result c.from_residual.ensures.1 (nothing_read (state g.S.Store c.args.self.now.conn) c.args.self.now.settled)
+returns-in_err-text g c = no_memory g.C.Database.state c.args.self.now.conn c.args.self.now.conn c.from_residual.result c.from_residual.ensures.1 (nothing_read (g.C.Database.state c.args.self.now.conn) c.args.self.now.settled)
 
 pub returns-in_err-added : goal.returns-in_err-added
-returns-in_err-added g c = fault_first g.S.Store c.args.self.now.conn c.add_under-added.new.tables.conn c.in_err-added.field-0.0 c.from_residual-in_err-added.result c.from_residual-in_err-added.ensures.1 c.in_err-added.ensures
+returns-in_err-added g c = fault_first g.C.Database.state c.args.self.now.conn c.add_under-added.new.tables.conn c.in_err-added.field-0.0 c.from_residual-in_err-added.result c.from_residual-in_err-added.ensures.1 c.in_err-added.ensures

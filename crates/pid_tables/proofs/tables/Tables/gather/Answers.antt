@@ -1,6 +1,5 @@
 use Rattle.std.proofs.Common.{◌≡◌, ℕ, List, Option, None, false, refl, ap, sym, subst, ◌∙◌, Result}
-use Rattle.sqlite.specs.Held.{Held, state}
-use Rattle.sqlite_trees.specs.declared.store.Store.{Ghosts}
+use Rattle.sqlite.specs.State.{State}
 use Rattle.pid_moderation.specs.FactsOfViews.{known, looked_at}
 use Rattle.pid_moderation.specs.Wants.{wanted_by}
 use Rattle.pid_moderation.specs.declared.command.Reply.{Reply}
@@ -14,15 +13,15 @@ use Rattle.pid_tables.proofs.tables.Tables.gather.Goals.{in-Some, in-None}
 use Rattle.pid_tables.proofs.tables.Tables.gather.Goals as goal
 
 -- a way to the reply that is kept
-abbrev Keeps : {S : Type 0} → Ghosts S → List ℕ → Option (List ℕ) → Held S → Held S → Result (Option Reply) TableFault → Type 0
+abbrev Keeps : {S : Type 0} → (S → State) → List ℕ → Option (List ℕ) → S → S → Result (Option Reply) TableFault → Type 0
 Keeps store account key old new r = Reads store old new r (λ v reply. reply ≡ (known v account key).kept)
 
 pub returns-in_err-rank : goal.returns-in_err-rank
-returns-in_err-rank g c = fault_first g.S.Store c.args.self.now.conn c.rank.new.self.conn c.in_err-rank.field-0.0 c.from_residual.result c.from_residual.ensures.1 c.in_err-rank.ensures
+returns-in_err-rank g c = fault_first g.C.Database.state c.args.self.now.conn c.rank.new.self.conn c.in_err-rank.field-0.0 c.from_residual.result c.from_residual.ensures.1 c.in_err-rank.ensures
 
 pub returns-in_err-revision : goal.returns-in_err-revision
 returns-in_err-revision g c =
-    fault_after g.S.Store c.args.self.now.conn c.rank.new.self.conn c.revision.new.self.conn c.rank.ensures.rests c.in_err-revision.field-0.0 c.from_residual-in_err-revision.result c.from_residual-in_err-revision.ensures.1 c.in_err-revision.ensures
+    fault_after g.C.Database.state c.args.self.now.conn c.rank.new.self.conn c.revision.new.self.conn c.rank.ensures.rests c.in_err-revision.field-0.0 c.from_residual-in_err-revision.result c.from_residual-in_err-revision.ensures.1 c.in_err-revision.ensures
 
 pub returns-in_err-kept : goal.returns-in_err-kept
 returns-in_err-kept g c =
@@ -31,14 +30,14 @@ returns-in_err-kept g c =
     let end = c.match-key.self.conn in
     let account = c.args.account.now in
     let key = c.args.key.now in
-    let kept : Keeps g.S.Store account key mid end c.match-key.kept = elim c.match-key.branch [
-      | in-Some w ↦ subst (λ s. Keeps g.S.Store account key mid s.conn c.match-key.kept) (sym w.self-is) (subst (λ r. Keeps g.S.Store account key mid w.kept_reply-kept.new.tables.conn r) (sym w.kept-is)
-          (says_less g.S.Store mid w.kept_reply-kept.new.tables.conn w.kept_reply-kept.result w.kept_reply-kept.ensures (λ v x says. rw w.in-Some.is (rw (w.as_str-in-Some.ensures.text, w.as_str-in-Some-2.ensures.text) at says))))
-      | in-None w ↦ subst (λ s. Keeps g.S.Store account key mid s.conn c.match-key.kept) (sym w.self-is) (subst (λ r. Keeps g.S.Store account key mid mid r) (sym w.kept-is)
-          (record { rests = nothing_read (state g.S.Store mid) c.revision.ensures.rests.settled; told = λ clean v rest. rw w.in-None.is refl }))
+    let kept : Keeps g.C.Database.state account key mid end c.match-key.kept = elim c.match-key.branch [
+      | in-Some w ↦ subst (λ s. Keeps g.C.Database.state account key mid s.conn c.match-key.kept) (sym w.self-is) (subst (λ r. Keeps g.C.Database.state account key mid w.kept_reply-kept.new.tables.conn r) (sym w.kept-is)
+          (says_less g.C.Database.state mid w.kept_reply-kept.new.tables.conn w.kept_reply-kept.result w.kept_reply-kept.ensures (λ v x says. rw w.in-Some.is (rw (w.as_str-in-Some.ensures.text, w.as_str-in-Some-2.ensures.text) at says))))
+      | in-None w ↦ subst (λ s. Keeps g.C.Database.state account key mid s.conn c.match-key.kept) (sym w.self-is) (subst (λ r. Keeps g.C.Database.state account key mid mid r) (sym w.kept-is)
+          (record { rests = nothing_read (g.C.Database.state mid) c.revision.ensures.rests.settled; told = λ clean v rest. rw w.in-None.is refl }))
     ] in
     let both = reads_then _ _ _ c.rank.ensures.rests c.revision.ensures.rests in
-    fault_after g.S.Store old mid end both c.in_err-kept.field-0.0 c.from_residual-in_err-kept.result c.from_residual-in_err-kept.ensures.1 (subst (λ r. Keeps g.S.Store account key mid end r) c.in_err-kept.was kept)
+    fault_after g.C.Database.state old mid end both c.in_err-kept.field-0.0 c.from_residual-in_err-kept.result c.from_residual-in_err-kept.ensures.1 (subst (λ r. Keeps g.C.Database.state account key mid end r) c.in_err-kept.was kept)
 
 pub returns : goal.returns
 returns g c =
@@ -47,15 +46,15 @@ returns g c =
     let end = c.match-key.self.conn in
     let account = c.args.account.now in
     let key = c.args.key.now in
-    let kept : Keeps g.S.Store account key mid end c.match-key.kept = elim c.match-key.branch [
-      | in-Some w ↦ subst (λ s. Keeps g.S.Store account key mid s.conn c.match-key.kept) (sym w.self-is) (subst (λ r. Keeps g.S.Store account key mid w.kept_reply-kept.new.tables.conn r) (sym w.kept-is)
-          (says_less g.S.Store mid w.kept_reply-kept.new.tables.conn w.kept_reply-kept.result w.kept_reply-kept.ensures (λ v x says. rw w.in-Some.is (rw (w.as_str-in-Some.ensures.text, w.as_str-in-Some-2.ensures.text) at says))))
-      | in-None w ↦ subst (λ s. Keeps g.S.Store account key mid s.conn c.match-key.kept) (sym w.self-is) (subst (λ r. Keeps g.S.Store account key mid mid r) (sym w.kept-is)
-          (record { rests = nothing_read (state g.S.Store mid) c.revision.ensures.rests.settled; told = λ clean v rest. rw w.in-None.is refl }))
+    let kept : Keeps g.C.Database.state account key mid end c.match-key.kept = elim c.match-key.branch [
+      | in-Some w ↦ subst (λ s. Keeps g.C.Database.state account key mid s.conn c.match-key.kept) (sym w.self-is) (subst (λ r. Keeps g.C.Database.state account key mid w.kept_reply-kept.new.tables.conn r) (sym w.kept-is)
+          (says_less g.C.Database.state mid w.kept_reply-kept.new.tables.conn w.kept_reply-kept.result w.kept_reply-kept.ensures (λ v x says. rw w.in-Some.is (rw (w.as_str-in-Some.ensures.text, w.as_str-in-Some-2.ensures.text) at says))))
+      | in-None w ↦ subst (λ s. Keeps g.C.Database.state account key mid s.conn c.match-key.kept) (sym w.self-is) (subst (λ r. Keeps g.C.Database.state account key mid mid r) (sym w.kept-is)
+          (record { rests = nothing_read (g.C.Database.state mid) c.revision.ensures.rests.settled; told = λ clean v rest. rw w.in-None.is refl }))
     ] in
     let both = reads_then _ _ _ c.rank.ensures.rests c.revision.ensures.rests in
-    let third : Keeps g.S.Store account key mid end _ = subst (λ r. Keeps g.S.Store account key mid end r) c.in_ok-kept.was kept in
-    answer_after g.S.Store old end c.with_rows.new.self.conn (reads_then _ _ _ both third.rests) c.with_rows.result c.with_rows.ensures
+    let third : Keeps g.C.Database.state account key mid end _ = subst (λ r. Keeps g.C.Database.state account key mid end r) c.in_ok-kept.was kept in
+    answer_after g.C.Database.state old end c.with_rows.new.self.conn (reads_then _ _ _ both third.rests) c.with_rows.result c.with_rows.ensures
     (λ clean v rest x says all parents.
     let late = third.rests.clean clean in
     let rank = rw c.as_str.ensures.text at (c.in_ok-rank.ensures.told (c.revision.ensures.rests.clean late) v rest) in

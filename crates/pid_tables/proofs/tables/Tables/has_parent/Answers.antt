@@ -1,6 +1,5 @@
 use Rattle.std.proofs.Common.{◌≡◌, Some, None, Option, List, ℕ, sym, ap, ◌∙◌}
 use Rattle.std.specs.Prelude.{is_some, option_map}
-use Rattle.sqlite.specs.Held.{state}
 use Rattle.pid_ident.proofs.PathReadingLemmas.{text_of_parent}
 use Rattle.pid_ident.specs.PathTexts.{path_text, parent_of}
 use Rattle.pid_file.specs.declared.path.Path.{Path}
@@ -12,7 +11,7 @@ pub returns-in-None : goal.returns-in-None
 returns-in-None g c =
     let none : parent_of c.args.path ≡ None = sym c.parent.ensures.parent ∙ c.in-None.is in
     record {
-      rests = nothing_read (state g.S.Store c.args.self.now.conn) c.args.self.now.settled;
+      rests = nothing_read (g.C.Database.state c.args.self.now.conn) c.args.self.now.settled;
       told = λ clean v rest. sym (ap (λ (o : Option (List ℕ)). holds_parent o v.items) (text_of_parent c.args.path ∙ ap (λ (o : Option Path). option_map path_text o) none));
     }
 

@@ -1,5 +1,4 @@
 use Rattle.std.proofs.Common.{◌∙◌, ap, slice_get}
-use Rattle.sqlite.specs.Held.{state}
 use Rattle.pid_tables.specs.declared.rows.schema_version.Version.TheVariants.{Two}
 use Rattle.pid_ident.specs.PathTexts.{path_text}
 use Rattle.pid_tables.specs.Rows.Causes.{IsCaused, IsReadable}
@@ -20,7 +19,7 @@ pub returns-in-Some : goal.returns-in-Some
 returns-in-Some g c = record {
   rests = c.in_ok-rows.ensures.rests;
   told = λ clean v rest.
-      let found = name_first g.S.Store c.args.self.now.conn v rest c.in_ok-rows.rows.items (path_text c.args.path.now) (rw (c.to_sql-key.ensures, c.as_str.ensures.value, c.in_ok-text.ensures) at (c.in_ok-rows.ensures.shown clean)) in
+      let found = name_first g.C.Database.state c.args.self.now.conn v rest c.in_ok-rows.rows.items (path_text c.args.path.now) (rw (c.to_sql-key.ensures, c.as_str.ensures.value, c.in_ok-text.ensures) at (c.in_ok-rows.ensures.shown clean)) in
       name_read (name_at (path_text c.args.path.now) v.items) c.in-Some.row.now c.in_ok-name_at-in-Some.field-0 (c.in-Some.ensures.value ∙ ap (λ l. slice_get l 0) c.deref.ensures.value ∙ found) c.in_ok-name_at-in-Some.ensures.read;
 }
 
@@ -28,7 +27,7 @@ pub returns : goal.returns
 returns g c = record {
   rests = c.in_ok-rows.ensures.rests;
   told = λ clean v rest.
-      let found = name_first g.S.Store c.args.self.now.conn v rest c.in_ok-rows.rows.items (path_text c.args.path.now) (rw (c.to_sql-key.ensures, c.as_str.ensures.value, c.in_ok-text.ensures) at (c.in_ok-rows.ensures.shown clean)) in
+      let found = name_first g.C.Database.state c.args.self.now.conn v rest c.in_ok-rows.rows.items (path_text c.args.path.now) (rw (c.to_sql-key.ensures, c.as_str.ensures.value, c.in_ok-text.ensures) at (c.in_ok-rows.ensures.shown clean)) in
       no_row name_row (name_at (path_text c.args.path.now) v.items) (c.in-None.ensures.value ∙ ap (λ l. slice_get l 0) c.deref.ensures.value ∙ found);
 }
 
@@ -36,9 +35,9 @@ pub returns-in_err-name_at-in-Some : goal.returns-in_err-name_at-in-Some
 returns-in_err-name_at-in-Some g c = record {
   rests = c.in_ok-rows.ensures.rests;
   told = λ clean v rest.
-      let old = state g.S.Store c.args.self.now.conn in
-      let new = state g.S.Store c.read_rows-rows.new.tables.conn in
-      let found = name_first g.S.Store c.args.self.now.conn v rest c.in_ok-rows.rows.items (path_text c.args.path.now) (rw (c.to_sql-key.ensures, c.as_str.ensures.value, c.in_ok-text.ensures) at (c.in_ok-rows.ensures.shown clean)) in
+      let old = g.C.Database.state c.args.self.now.conn in
+      let new = g.C.Database.state c.read_rows-rows.new.tables.conn in
+      let found = name_first g.C.Database.state c.args.self.now.conn v rest c.in_ok-rows.rows.items (path_text c.args.path.now) (rw (c.to_sql-key.ensures, c.as_str.ensures.value, c.in_ok-text.ensures) at (c.in_ok-rows.ensures.shown clean)) in
       passed_on c.from_residual-in_err-name_at-in-Some.result _ _ (λ fault. IsReadable v → IsCaused old new fault) c.from_residual-in_err-name_at-in-Some.ensures.1
       (λ readable. caused_unread old new c.in_err-name_at-in-Some.field-0.0 (name_written v.items (path_text c.args.path.now) c.in-Some.row.now readable.items (c.in-Some.ensures.value ∙ ap (λ l. slice_get l 0) c.deref.ensures.value ∙ found)) c.in_err-name_at-in-Some.ensures.unread);
 }
@@ -47,13 +46,13 @@ pub returns-in_err-rows : goal.returns-in_err-rows
 returns-in_err-rows g c = record {
   rests = c.in_err-rows.ensures.rests;
   told = λ clean v rest.
-      passed_on c.from_residual-in_err-rows.result _ _ (λ fault. IsReadable v → IsCaused (state g.S.Store c.args.self.now.conn) (state g.S.Store c.read_rows-rows.new.tables.conn) fault) c.from_residual-in_err-rows.ensures.1
+      passed_on c.from_residual-in_err-rows.result _ _ (λ fault. IsReadable v → IsCaused (g.C.Database.state c.args.self.now.conn) (g.C.Database.state c.read_rows-rows.new.tables.conn) fault) c.from_residual-in_err-rows.ensures.1
       (λ readable. (rw (c.to_sql-key.ensures, c.as_str.ensures.value, c.in_ok-text.ensures) at (c.in_err-rows.ensures.faults.caused clean pid_schema (λ opened. (rest.shows opened).schema))) (item_query Two (path_text c.args.path.now)));
 }
 
 pub returns-in_err-text : goal.returns-in_err-text
 returns-in_err-text g c =
-    let old = state g.S.Store c.args.self.now.conn in
+    let old = g.C.Database.state c.args.self.now.conn in
     record {
       rests = nothing_read old c.args.self.now.settled;
       told = λ clean v rest. passed_on c.from_residual.result Memory _ (λ fault. IsReadable v → IsCaused old old fault) c.from_residual.ensures.1 (λ readable. tt);

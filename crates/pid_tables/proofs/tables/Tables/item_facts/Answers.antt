@@ -6,7 +6,7 @@ use Rattle.pid_tables.proofs.ThenReads.{fault_after, fault_first, value_after}
 use Rattle.pid_tables.proofs.tables.Tables.item_facts.Goals as goal
 
 pub returns-in_err-submission_facts : goal.returns-in_err-submission_facts
-returns-in_err-submission_facts g c = fault_first g.S.Store c.args.self.now.conn c.submission_facts.new.self.conn c.in_err-submission_facts.field-0.0 c.from_residual.result c.from_residual.ensures.1 c.in_err-submission_facts.ensures
+returns-in_err-submission_facts g c = fault_first g.C.Database.state c.args.self.now.conn c.submission_facts.new.self.conn c.in_err-submission_facts.field-0.0 c.from_residual.result c.from_residual.ensures.1 c.in_err-submission_facts.ensures
 
 pub returns-in-None : goal.returns-in-None
 returns-in-None g c = record {
@@ -16,11 +16,11 @@ returns-in-None g c = record {
 
 pub returns-in-Ok : goal.returns-in-Ok
 returns-in-Ok g c =
-    value_after g.S.Store c.args.self.now.conn c.submission_facts.new.self.conn c.place_at.new.self.conn c.submission_facts.ensures.rests _ _ c.in-Ok.ensures
+    value_after g.C.Database.state c.args.self.now.conn c.submission_facts.new.self.conn c.place_at.new.self.conn c.submission_facts.ensures.rests _ _ c.in-Ok.ensures
     (λ clean v rest says all parents.
     let it = says all parents in
     (λ i. record (bare c.args.known) { items = (it i).items; named = Some c.in-Some.named; present = (it i).present; has_parent = (it i).has_parent; has_children = (it i).has_children })
     ∙ ap (λ (o : Option NamedSubmission). with_item_facts v o (bare c.args.known)) (sym c.in-Some.is ∙ c.in_ok-submission_facts.ensures.told clean v rest))
 
 pub returns-in-Err : goal.returns-in-Err
-returns-in-Err g c = fault_after g.S.Store c.args.self.now.conn c.submission_facts.new.self.conn c.place_at.new.self.conn c.submission_facts.ensures.rests c.in-Err.fault (Err c.in-Err.fault) refl c.in-Err.ensures
+returns-in-Err g c = fault_after g.C.Database.state c.args.self.now.conn c.submission_facts.new.self.conn c.place_at.new.self.conn c.submission_facts.ensures.rests c.in-Err.fault (Err c.in-Err.fault) refl c.in-Err.ensures

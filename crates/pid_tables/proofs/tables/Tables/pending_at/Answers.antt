@@ -1,5 +1,4 @@
 use Rattle.std.proofs.Common.{ap, map, refl, ◌∙◌, arith, take_all}
-use Rattle.sqlite.specs.Held.{state}
 use Rattle.pid_moderation.specs.PendingPages.{told_of}
 use Rattle.pid_tables.specs.Rows.Causes.{IsCaused, IsReadable}
 use Rattle.pid_tables.proofs.OfRows.CauseLemmas.{caused_later, passed_on}
@@ -28,9 +27,9 @@ pub returns-in_err-add_numbered : goal.returns-in_err-add_numbered
 returns-in_err-add_numbered g c =
     let one = c.in_err-add_numbered.ensures in
     let before = c.loop-number.invariant in
-    let old = state g.S.Store c.args.self.now.conn in
-    let mid = state g.S.Store c.loop-number.self.conn in
-    let new = state g.S.Store c.add_numbered.new.tables.conn in
+    let old = g.C.Database.state c.args.self.now.conn in
+    let mid = g.C.Database.state c.loop-number.self.conn in
+    let new = g.C.Database.state c.add_numbered.new.tables.conn in
     record {
       rests = reads_then _ _ _ before.0 one.rests;
       told = λ clean v rest.
@@ -39,4 +38,4 @@ returns-in_err-add_numbered g c =
     }
 
 pub loop-number-init : goal.loop-number-init
-loop-number-init g c = (nothing_read (state g.S.Store c.args.self.now.conn) c.args.self.now.settled, λ clean v rest. ap (map told_of) c.new-page.ensures.items)
+loop-number-init g c = (nothing_read (g.C.Database.state c.args.self.now.conn) c.args.self.now.settled, λ clean v rest. ap (map told_of) c.new-page.ensures.items)

@@ -7,5 +7,5 @@ use Rattle.pid_tables.proofs.tables.Tables.pending_at.Given as goal
 
 abbrev pub invariant-loop-number : goal.invariant-loop-number
 invariant-loop-number g l =
-    OnlyReads g.S.Store l.initial.self.conn l.self.conn
-    × (HasCleanDisk g.S.Store l.self.conn → (v : Views) → AtRest g.S.Store l.initial.self.conn v → map told_of l.page.items ≡ standings_at (take l.number-index l.numbers) v)
+    OnlyReads g.C.Database.state l.initial.self.conn l.self.conn
+    × (HasCleanDisk g.C.Database.state l.self.conn → (v : Views) → AtRest g.C.Database.state l.initial.self.conn v → map told_of l.page.items ≡ standings_at (take l.number-index l.numbers) v)

@@ -1,7 +1,6 @@
 use Rattle.std.proofs.Common.{◌≡◌, ◌++◌, ◌∷◌, [], map, length, ap, sym, ◌∙◌, arith, append_assoc, append-nil}
 use Rattle.std.proofs.lemmas.List.{map-append}
 use Rattle.std.specs.Vec.Iter.{into_iter_items}
-use Rattle.sqlite.specs.Held.{state}
 use Rattle.pid_moderation.specs.PendingPages.{told_of}
 use Rattle.pid_moderation.specs.QueuePages.{entry_in}
 use Rattle.pid_tables.specs.Rows.Causes.{IsCaused, IsReadable}
@@ -39,9 +38,9 @@ pub returns-in_err-add_queued : goal.returns-in_err-add_queued
 returns-in_err-add_queued g c =
     let one = c.in_err-add_queued.ensures in
     let before = c.loop-pending.invariant in
-    let old = state g.S.Store c.args.self.now.conn in
-    let mid = state g.S.Store c.loop-pending.self.conn in
-    let new = state g.S.Store c.add_queued.new.self.conn in
+    let old = g.C.Database.state c.args.self.now.conn in
+    let mid = g.C.Database.state c.loop-pending.self.conn in
+    let new = g.C.Database.state c.add_queued.new.self.conn in
     record {
       rests = reads_then _ _ _ before.0 one.rests;
       told = λ clean v rest.

@@ -1,5 +1,4 @@
 use Rattle.std.proofs.Common.{◌∙◌, ap, slice_get}
-use Rattle.sqlite.specs.Held.{state}
 use Rattle.pid_tables.specs.declared.rows.schema_version.Version.TheVariants.{Two}
 use Rattle.pid_tables.specs.Rows.Causes.{IsCaused, IsReadable}
 use Rattle.pid_tables.specs.Rows.Schema.{pid_schema}
@@ -16,7 +15,7 @@ pub returns-in-Some : goal.returns-in-Some
 returns-in-Some g c = record {
   rests = c.in_ok-rows.ensures.rests;
   told = λ clean v rest.
-      let found = rank_first g.S.Store c.args.self.now.conn v rest c.in_ok-rows.rows.items c.args.name.now (rw c.to_sql-name.ensures at (c.in_ok-rows.ensures.shown clean)) in
+      let found = rank_first g.C.Database.state c.args.self.now.conn v rest c.in_ok-rows.rows.items c.args.name.now (rw c.to_sql-name.ensures at (c.in_ok-rows.ensures.shown clean)) in
       rank_read (v.rank c.args.name.now) c.in-Some.row.now c.in_ok-rank_at-in-Some.field-0 (c.in-Some.ensures.value ∙ ap (λ l. slice_get l 0) c.deref.ensures.value ∙ found) c.in_ok-rank_at-in-Some.ensures.read;
 }
 
@@ -24,7 +23,7 @@ pub returns : goal.returns
 returns g c = record {
   rests = c.in_ok-rows.ensures.rests;
   told = λ clean v rest.
-      let found = rank_first g.S.Store c.args.self.now.conn v rest c.in_ok-rows.rows.items c.args.name.now (rw c.to_sql-name.ensures at (c.in_ok-rows.ensures.shown clean)) in
+      let found = rank_first g.C.Database.state c.args.self.now.conn v rest c.in_ok-rows.rows.items c.args.name.now (rw c.to_sql-name.ensures at (c.in_ok-rows.ensures.shown clean)) in
       no_row rank_row (v.rank c.args.name.now) (c.in-None.ensures.value ∙ ap (λ l. slice_get l 0) c.deref.ensures.value ∙ found);
 }
 
@@ -32,9 +31,9 @@ pub returns-in_err-rank_at-in-Some : goal.returns-in_err-rank_at-in-Some
 returns-in_err-rank_at-in-Some g c = record {
   rests = c.in_ok-rows.ensures.rests;
   told = λ clean v rest.
-      let old = state g.S.Store c.args.self.now.conn in
-      let new = state g.S.Store c.read_rows.new.tables.conn in
-      let found = rank_first g.S.Store c.args.self.now.conn v rest c.in_ok-rows.rows.items c.args.name.now (rw c.to_sql-name.ensures at (c.in_ok-rows.ensures.shown clean)) in
+      let old = g.C.Database.state c.args.self.now.conn in
+      let new = g.C.Database.state c.read_rows.new.tables.conn in
+      let found = rank_first g.C.Database.state c.args.self.now.conn v rest c.in_ok-rows.rows.items c.args.name.now (rw c.to_sql-name.ensures at (c.in_ok-rows.ensures.shown clean)) in
       passed_on c.from_residual-in_err-rank_at-in-Some.result _ _ (λ fault. IsReadable v → IsCaused old new fault) c.from_residual-in_err-rank_at-in-Some.ensures.1
       (λ readable. caused_unread old new c.in_err-rank_at-in-Some.field-0.0 (rank_written (v.rank c.args.name.now) c.in-Some.row.now (c.in-Some.ensures.value ∙ ap (λ l. slice_get l 0) c.deref.ensures.value ∙ found)) c.in_err-rank_at-in-Some.ensures.unread);
 }
@@ -43,6 +42,6 @@ pub returns-in_err-rows : goal.returns-in_err-rows
 returns-in_err-rows g c = record {
   rests = c.in_err-rows.ensures.rests;
   told = λ clean v rest.
-      passed_on c.from_residual.result _ _ (λ fault. IsReadable v → IsCaused (state g.S.Store c.args.self.now.conn) (state g.S.Store c.read_rows.new.tables.conn) fault) c.from_residual.ensures.1
+      passed_on c.from_residual.result _ _ (λ fault. IsReadable v → IsCaused (g.C.Database.state c.args.self.now.conn) (g.C.Database.state c.read_rows.new.tables.conn) fault) c.from_residual.ensures.1
       (λ readable. (rw c.to_sql-name.ensures at (c.in_err-rows.ensures.faults.caused clean pid_schema (λ opened. (rest.shows opened).schema))) (account_query Two c.args.name.now));
 }

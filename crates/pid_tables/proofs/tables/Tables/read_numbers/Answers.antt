@@ -1,6 +1,5 @@
 use Rattle.std.proofs.Common.{◌≡◌, ◌<◌, ◌*◌, ◌+◌, length, arith, true, ap, subst, ◌∙◌}
 use Rattle.std.proofs.lemmas.List.{length-map}
-use Rattle.sqlite.specs.Held.{state}
 use Rattle.pid_tables.specs.Rows.Causes.{IsCaused, IsReadable}
 use Rattle.pid_tables.proofs.OfRows.CauseLemmas.{caused_later, passed_on}
 use Rattle.pid_tables.proofs.OfRows.OnlyReading.{reads_then}
@@ -42,9 +41,9 @@ pub returns-in_err-rows : goal.returns-in_err-rows
 returns-in_err-rows g c =
     let one = c.in_err-rows.ensures in
     let before = c.loop-time.invariant in
-    let old = state g.S.Store c.args.self.now.conn in
-    let mid = state g.S.Store c.loop-time.self.conn in
-    let new = state g.S.Store c.filing_rows.new.tables.conn in
+    let old = g.C.Database.state c.args.self.now.conn in
+    let mid = g.C.Database.state c.loop-time.self.conn in
+    let new = g.C.Database.state c.filing_rows.new.tables.conn in
     record {
       rests = reads_then _ _ _ before.0 one.rests;
       told = λ clean v rest.

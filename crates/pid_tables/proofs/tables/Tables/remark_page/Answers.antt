@@ -1,5 +1,4 @@
 use Rattle.std.specs.Prelude.{ℕ, List, option_map}
-use Rattle.sqlite.specs.Held.{state}
 use Rattle.pid_tables.specs.Rows.Causes.{IsCaused, IsReadable}
 use Rattle.pid_tables.proofs.OfRows.CauseLemmas.{caused_later, passed_on}
 use Rattle.pid_tables.proofs.OfRows.OnlyReading.{reads_then}
@@ -16,9 +15,9 @@ pub returns-in_err-count : goal.returns-in_err-count
 returns-in_err-count g c =
     let one = c.in_ok-remarks.ensures in
     let two = c.in_err-count.ensures in
-    let old = state g.S.Store c.args.self.now.conn in
-    let mid = state g.S.Store c.remarks_after.new.tables.conn in
-    let new = state g.S.Store c.remark_count.new.tables.conn in
+    let old = g.C.Database.state c.args.self.now.conn in
+    let mid = g.C.Database.state c.remarks_after.new.tables.conn in
+    let new = g.C.Database.state c.remark_count.new.tables.conn in
     record {
       rests = reads_then _ _ _ one.rests two.rests;
       told = λ clean v rest.
@@ -32,9 +31,9 @@ returns-in_err-submission g c =
     let two = c.in_ok-count.ensures in
     let three = c.in_err-submission.ensures in
     let both = reads_then _ _ _ one.rests two.rests in
-    let old = state g.S.Store c.args.self.now.conn in
-    let mid = state g.S.Store c.remark_count.new.tables.conn in
-    let new = state g.S.Store c.standing.new.tables.conn in
+    let old = g.C.Database.state c.args.self.now.conn in
+    let mid = g.C.Database.state c.remark_count.new.tables.conn in
+    let new = g.C.Database.state c.standing.new.tables.conn in
     record {
       rests = reads_then _ _ _ both three.rests;
       told = λ clean v rest.
@@ -75,4 +74,4 @@ returns-in-None g c =
     }
 
 pub returns-in_err-remarks : goal.returns-in_err-remarks
-returns-in_err-remarks g c = fault_first g.S.Store c.args.self.now.conn c.remarks_after.new.tables.conn c.in_err-remarks.field-0.0 c.from_residual.result c.from_residual.ensures.1 c.in_err-remarks.ensures
+returns-in_err-remarks g c = fault_first g.C.Database.state c.args.self.now.conn c.remarks_after.new.tables.conn c.in_err-remarks.field-0.0 c.from_residual.result c.from_residual.ensures.1 c.in_err-remarks.ensures

@@ -1,5 +1,4 @@
 use Rattle.std.proofs.Common.{◌≡◌, ap, ◌∙◌, slice_get, None, Some, Option}
-use Rattle.sqlite.specs.Held.{state}
 use Rattle.pid_tables.proofs.OfRows.ReadBack.{whole_read}
 use Rattle.pid_tables.proofs.OfRows.MapLemmas.{some_same}
 use Rattle.pid_tables.proofs.tables.Tables.revision.Goals as goal
@@ -12,7 +11,7 @@ returns-in-Some g c = record {
   rests = c.in_ok-rows.ensures.reads.rests;
   told = λ clean v rest.
       let found = c.in_ok-rows.ensures.reads.told clean v rest in
-      whole_read (state g.S.Store c.args.self.now.conn) (state g.S.Store c.value_rows.new.tables.conn) v c.in-Some.row.now c.whole_at.result v.revision
+      whole_read (g.C.Database.state c.args.self.now.conn) (g.C.Database.state c.value_rows.new.tables.conn) v c.in-Some.row.now c.whole_at.result v.revision
       (some_same (c.in-Some.ensures.value ∙ ap (λ l. slice_get l 0) c.deref.ensures.value ∙ found)) c.whole_at.ensures.read c.whole_at.ensures.unread;
 }
 

@@ -1,6 +1,5 @@
 use Rattle.std.proofs.Common.{refl, sym, ◌∙◌}
 use Rattle.std.proofs.lemmas.Bool.{true≢false, false≢true}
-use Rattle.sqlite.specs.Held.{state}
 use Rattle.pid_moderation.specs.Views.{views_of}
 use Rattle.pid_tables.specs.declared.rows.schema_version.Version.TheVariants.{One, Two}
 use Rattle.pid_tables.specs.Rows.Faults.{IsMemoryOrStore}
@@ -10,7 +9,7 @@ use Rattle.pid_tables.proofs.OfRows.OnlyReading.{reads_then, rests_in_still}
 use Rattle.pid_tables.specs.Check.Checking.{Explains}
 use Rattle.pid_tables.proofs.OfCheck.Telling.{told_stored}
 use Rattle.pid_tables.specs.Steps.Bringing.{Named}
-use Rattle.pid_tables.proofs.StandLemmas.{seen_still, only_store_explains, told_before, as_standing, none_found, none_within, good_found}
+use Rattle.pid_tables.proofs.StandLemmas.{outside, seen_still, only_store_explains, told_before, as_standing, none_found, none_within, good_found}
 use Rattle.pid_tables.proofs.tables.Tables.schema_found.Goals as goal
 
 -- ---- it only reads
@@ -28,18 +27,18 @@ returns-clause-rests g c = reads_then _ _ _ c.is_current.ensures.rests c.check.e
 
 pub returns-in_err-is_current-clause-same : goal.returns-in_err-is_current-clause-same
 returns-in_err-is_current-clause-same g c =
-    seen_still (state g.S.Store c.args.self.now.conn) (state g.S.Store c.is_current.new.tables.conn) (c.all_is_committed_outside_transactions.ensures c.args.self.now.settled) c.is_current.ensures.rests
+    seen_still (g.C.Database.state c.args.self.now.conn) (g.C.Database.state c.is_current.new.tables.conn) (c.is_autocommit-outside.ensures.settled (outside _ _ c.args.self.now.settled c.is_autocommit-outside.ensures.value)) c.is_current.ensures.rests
 
 pub returns-then-branch-clause-same : goal.returns-then-branch-clause-same
 returns-then-branch-clause-same g c =
-    seen_still (state g.S.Store c.args.self.now.conn) (state g.S.Store c.is_current.new.tables.conn) (c.all_is_committed_outside_transactions.ensures c.args.self.now.settled) c.is_current.ensures.rests
+    seen_still (g.C.Database.state c.args.self.now.conn) (g.C.Database.state c.is_current.new.tables.conn) (c.is_autocommit-outside.ensures.settled (outside _ _ c.args.self.now.settled c.is_autocommit-outside.ensures.value)) c.is_current.ensures.rests
 
 pub returns-clause-same : goal.returns-clause-same
 returns-clause-same g c =
-    let old = state g.S.Store c.args.self.now.conn in
-    let mid = state g.S.Store c.is_current.new.tables.conn in
-    let new = state g.S.Store c.check.new.self.conn in
-    seen_still old new (c.all_is_committed_outside_transactions.ensures c.args.self.now.settled) (reads_then old mid new c.is_current.ensures.rests c.check.ensures.rests)
+    let old = g.C.Database.state c.args.self.now.conn in
+    let mid = g.C.Database.state c.is_current.new.tables.conn in
+    let new = g.C.Database.state c.check.new.self.conn in
+    seen_still old new (c.is_autocommit-outside.ensures.settled (outside _ _ c.args.self.now.settled c.is_autocommit-outside.ensures.value)) (reads_then old mid new c.is_current.ensures.rests c.check.ensures.rests)
 
 -- ---- what is shown
 
@@ -64,9 +63,9 @@ returns-then-branch-clause-shown g c = record {
 -- the check tells
 pub returns-clause-shown : goal.returns-clause-shown
 returns-clause-shown g c =
-    let old = state g.S.Store c.args.self.now.conn in
-    let mid = state g.S.Store c.is_current.new.tables.conn in
-    let still = seen_still old mid (c.all_is_committed_outside_transactions.ensures c.args.self.now.settled) c.is_current.ensures.rests in
+    let old = g.C.Database.state c.args.self.now.conn in
+    let mid = g.C.Database.state c.is_current.new.tables.conn in
+    let still = seen_still old mid (c.is_autocommit-outside.ensures.settled (outside _ _ c.args.self.now.settled c.is_autocommit-outside.ensures.value)) c.is_current.ensures.rests in
     record {
       shut = λ clean closed. absurd (true≢false (sym (c.in_ok-is_current.ensures.was_open (c.check.ensures.rests.clean clean)) ∙ closed));
       bare = λ clean none. none_found old.now c.check.result none (told_before old mid c.check.result still (c.check.ensures.shut clean) (c.check.ensures.told clean));
@@ -80,7 +79,7 @@ returns-clause-shown g c =
 
 pub returns-in_err-is_current-clause-told : goal.returns-in_err-is_current-clause-told
 returns-in_err-is_current-clause-told g c clean =
-    let db = (state g.S.Store c.args.self.now.conn).now in
+    let db = (g.C.Database.state c.args.self.now.conn).now in
     passed_on c.from_residual.result _ _ (Explains db) c.from_residual.ensures.1 (only_store_explains db _ c.in_err-is_current.ensures.only_store)
 
 pub returns-then-branch-clause-told : goal.returns-then-branch-clause-told
@@ -88,7 +87,7 @@ returns-then-branch-clause-told g c clean = Named refl (c.in_ok-is_current.ensur
 
 pub returns-clause-told : goal.returns-clause-told
 returns-clause-told g c clean =
-    let old = state g.S.Store c.args.self.now.conn in
-    let mid = state g.S.Store c.is_current.new.tables.conn in
-    let still = seen_still old mid (c.all_is_committed_outside_transactions.ensures c.args.self.now.settled) c.is_current.ensures.rests in
+    let old = g.C.Database.state c.args.self.now.conn in
+    let mid = g.C.Database.state c.is_current.new.tables.conn in
+    let still = seen_still old mid (c.is_autocommit-outside.ensures.settled (outside _ _ c.args.self.now.settled c.is_autocommit-outside.ensures.value)) c.is_current.ensures.rests in
     as_standing old.now c.check.result (told_before old mid c.check.result still (c.check.ensures.shut clean) (c.check.ensures.told clean))

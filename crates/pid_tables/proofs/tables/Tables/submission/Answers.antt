@@ -1,5 +1,4 @@
 use Rattle.std.specs.Prelude.{option_map}
-use Rattle.sqlite.specs.Held.{state}
 use Rattle.pid_tables.specs.Rows.Causes.{IsCaused, IsReadable}
 use Rattle.pid_tables.proofs.OfRows.CauseLemmas.{caused_later, passed_on}
 use Rattle.pid_tables.proofs.OfRows.OnlyReading.{reads_then}
@@ -11,9 +10,9 @@ pub returns-in_err-submission : goal.returns-in_err-submission
 returns-in_err-submission g c =
     let one = c.in_ok-remarks.ensures in
     let two = c.in_err-submission.ensures in
-    let old = state g.S.Store c.args.self.now.conn in
-    let mid = state g.S.Store c.comments.new.tables.conn in
-    let new = state g.S.Store c.standing.new.tables.conn in
+    let old = g.C.Database.state c.args.self.now.conn in
+    let mid = g.C.Database.state c.comments.new.tables.conn in
+    let new = g.C.Database.state c.standing.new.tables.conn in
     record {
       rests = reads_then _ _ _ one.rests two.rests;
       told = λ clean v rest.
@@ -46,4 +45,4 @@ returns-in-None g c =
     }
 
 pub returns-in_err-remarks : goal.returns-in_err-remarks
-returns-in_err-remarks g c = fault_first g.S.Store c.args.self.now.conn c.comments.new.tables.conn c.in_err-remarks.field-0.0 c.from_residual.result c.from_residual.ensures.1 c.in_err-remarks.ensures
+returns-in_err-remarks g c = fault_first g.C.Database.state c.args.self.now.conn c.comments.new.tables.conn c.in_err-remarks.field-0.0 c.from_residual.result c.from_residual.ensures.1 c.in_err-remarks.ensures

@@ -1,6 +1,5 @@
 use Rattle.std.proofs.Common.{◌≡◌, ◌+◌, List, map, ap, refl, ◌∙◌, arith}
 use Rattle.std.specs.Option.{option_copied}
-use Rattle.sqlite.specs.Held.{state}
 use Rattle.pid_moderation.specs.SubmissionPages.{Search, listed_of, listing_in}
 use Rattle.pid_moderation.specs.Views.{Views}
 use Rattle.sqlite.specs.Order.{Row}
@@ -46,9 +45,9 @@ returns-in_err-submissions g c =
     let found = c.in_ok-rows.ensures in
     let listed = c.in_err-submissions.ensures in
     let both = reads_then _ _ _ counted.rests found.rests in
-    let old = state g.S.Store c.args.self.now.conn in
-    let mid = state g.S.Store c.number_rows-rows.new.tables.conn in
-    let new = state g.S.Store c.listed_at-listed.new.tables.conn in
+    let old = g.C.Database.state c.args.self.now.conn in
+    let mid = g.C.Database.state c.number_rows-rows.new.tables.conn in
+    let new = g.C.Database.state c.listed_at-listed.new.tables.conn in
     record {
       rests = reads_then _ _ _ both listed.rests;
       told = λ clean v rest.
@@ -63,9 +62,9 @@ pub returns-in_err-rows : goal.returns-in_err-rows
 returns-in_err-rows g c =
     let one = c.in_ok-count.ensures in
     let two = c.in_err-rows.ensures in
-    let old = state g.S.Store c.args.self.now.conn in
-    let mid = state g.S.Store c.submissions.new.self.conn in
-    let new = state g.S.Store c.number_rows-rows.new.tables.conn in
+    let old = g.C.Database.state c.args.self.now.conn in
+    let mid = g.C.Database.state c.submissions.new.self.conn in
+    let new = g.C.Database.state c.number_rows-rows.new.tables.conn in
     record {
       rests = reads_then _ _ _ one.rests two.rests;
       told = λ clean v rest.
@@ -74,7 +73,7 @@ returns-in_err-rows g c =
     }
 
 pub returns-in_err-count : goal.returns-in_err-count
-returns-in_err-count g c = fault_first g.S.Store c.args.self.now.conn c.submissions.new.self.conn c.in_err-count.field-0.0 c.from_residual.result c.from_residual.ensures.1 c.in_err-count.ensures
+returns-in_err-count g c = fault_first g.C.Database.state c.args.self.now.conn c.submissions.new.self.conn c.in_err-count.field-0.0 c.from_residual.result c.from_residual.ensures.1 c.in_err-count.ensures
 
 pub returns-in_err-path : goal.returns-in_err-path
-returns-in_err-path g c = no_memory g.S.Store c.args.self.now.conn c.submissions.new.self.conn c.from_residual-in_err-path.result c.from_residual-in_err-path.ensures.1 c.in_ok-count.ensures.rests
+returns-in_err-path g c = no_memory g.C.Database.state c.args.self.now.conn c.submissions.new.self.conn c.from_residual-in_err-path.result c.from_residual-in_err-path.ensures.1 c.in_ok-count.ensures.rests

@@ -1,7 +1,6 @@
 use Rattle.std.proofs.Common.{◌≡◌, codes, IfOk, IfErr, MatchResult, refl, sym, subst, ◌∙◌}
 use Rattle.std.proofs.lemmas.Bool.{true≢false}
 use Rattle.sqlite.specs.Effect.{Database}
-use Rattle.sqlite.specs.Held.{state}
 use Rattle.pid_tables.specs.declared.rows.schema_version.Version.TheVariants.{One}
 use Rattle.pid_tables.specs.Rows.Causes.{IsCaused, IsReadable}
 use Rattle.pid_tables.specs.Rows.Faults.{IsMemoryOrStore, IsNotNewerSchema}
@@ -21,15 +20,15 @@ pub returns-then-branch-clause-told : goal.returns-then-branch-clause-told
 returns-then-branch-clause-told g c clean v rest =
     let found = c.in_ok-has_some_table.ensures.found in
     let reads = c.schema_number.ensures.reads in
-    caused_all (state g.S.Store c.args.self.now.conn) (state g.S.Store c.has_some_table.new.tables.conn) (state g.S.Store c.schema_number.new.tables.conn) (IsReadable v) (λ n. n ≡ 2) c.schema_number.result
+    caused_all (g.C.Database.state c.args.self.now.conn) (g.C.Database.state c.has_some_table.new.tables.conn) (g.C.Database.state c.schema_number.new.tables.conn) (IsReadable v) (λ n. n ≡ 2) c.schema_number.result
     (c.in_ok-has_some_table.ensures.reads.rests, found.same) reads.rests clean (reads.told clean v (c.in_ok-has_some_table.ensures.reads.rests.kept v rest))
 
 -- ---- what the label shows
 
 pub returns-in_err-has_some_table-clause-shown : goal.returns-in_err-has_some_table-clause-shown
 returns-in_err-has_some_table-clause-shown g c =
-    let lacks = LacksNumber (state g.S.Store c.args.self.now.conn).now.trees (codes "schema") in
-    let hides = ShowsNoNumber (state g.S.Store c.args.self.now.conn).now (codes "schema") in
+    let lacks = LacksNumber (g.C.Database.state c.args.self.now.conn).now.trees (codes "schema") in
+    let hides = ShowsNoNumber (g.C.Database.state c.args.self.now.conn).now (codes "schema") in
     let only_store = c.in_err-has_some_table.ensures.found.only_store in
     record {
       earlier = λ clean v rest. passed_on c.from_residual.result _ _ IsMemoryOrStore c.from_residual.ensures.1 only_store;
@@ -46,7 +45,7 @@ pub returns-then-branch-clause-shown : goal.returns-then-branch-clause-shown
 returns-then-branch-clause-shown g c =
     let found = c.in_ok-has_some_table.ensures.found in
     let read = c.schema_number.ensures in
-    let db = (state g.S.Store c.has_some_table.new.tables.conn).now in
+    let db = (g.C.Database.state c.has_some_table.new.tables.conn).now in
     record {
       earlier = λ clean v rest.
           let early = read.reads.rests.clean clean in
@@ -88,7 +87,7 @@ returns-in_err-has_some_table-clause-rests g c = c.has_some_table.ensures.reads.
 
 pub returns-in_err-has_some_table-clause-told : goal.returns-in_err-has_some_table-clause-told
 returns-in_err-has_some_table-clause-told g c clean v rest =
-    passed_on c.from_residual.result _ _ (λ fault. IsReadable v → IsCaused (state g.S.Store c.args.self.now.conn) (state g.S.Store c.has_some_table.new.tables.conn) fault) c.from_residual.ensures.1 (c.in_err-has_some_table.ensures.reads.told clean v rest)
+    passed_on c.from_residual.result _ _ (λ fault. IsReadable v → IsCaused (g.C.Database.state c.args.self.now.conn) (g.C.Database.state c.has_some_table.new.tables.conn) fault) c.from_residual.ensures.1 (c.in_err-has_some_table.ensures.reads.told clean v rest)
 
 pub returns-then-branch-clause-rests : goal.returns-then-branch-clause-rests
 returns-then-branch-clause-rests g c = reads_then _ _ _ c.has_some_table.ensures.reads.rests c.schema_number.ensures.reads.rests

@@ -1,7 +1,6 @@
 use Rattle.std.proofs.Common.{◌≤◌, ◌∙◌, ◌++◌, map, length, ap, subst, sym}
 use Rattle.std.specs.Option.{option_copied}
 use Rattle.std.proofs.lemmas.List.{map-append}
-use Rattle.sqlite.specs.Held.{state}
 use Rattle.pid_moderation.specs.SubmissionPages.{Search, listed_of, sought_in}
 use Rattle.pid_tables.specs.Rows.Causes.{IsCaused, IsReadable}
 use Rattle.pid_tables.proofs.OfRows.CauseLemmas.{caused_later, passed_on}
@@ -57,9 +56,9 @@ pub returns-in_err-page : goal.returns-in_err-page
 returns-in_err-page g c =
     let one = c.in_err-page.ensures in
     let before = c.loop.invariant in
-    let old = state g.S.Store c.args.self.now.conn in
-    let mid = state g.S.Store c.loop.self.conn in
-    let new = state g.S.Store c.submissions_page.new.self.conn in
+    let old = g.C.Database.state c.args.self.now.conn in
+    let mid = g.C.Database.state c.loop.self.conn in
+    let new = g.C.Database.state c.submissions_page.new.self.conn in
     record {
       rests = reads_then _ _ _ before.0 one.rests;
       told = λ clean v rest.
@@ -70,14 +69,14 @@ returns-in_err-page g c =
 pub loop-init : goal.loop-init
 loop-init g c =
     let wanted : Search = record { path = option_copied c.args.path; author = option_copied c.args.author; before = c.args.before } in
-    (nothing_read (state g.S.Store c.args.self.now.conn) c.args.self.now.settled, λ clean v rest. ap (λ l. map listed_of l ++ sought_in wanted v) c.new-found.ensures.items)
+    (nothing_read (g.C.Database.state c.args.self.now.conn) c.args.self.now.settled, λ clean v rest. ap (λ l. map listed_of l ++ sought_in wanted v) c.new-found.ensures.items)
 
 pub returns-in_err-add_page : goal.returns-in_err-add_page
 returns-in_err-add_page g c =
     let one = c.in_ok-page.ensures in
     let before = c.loop.invariant in
-    let old = state g.S.Store c.args.self.now.conn in
-    let new = state g.S.Store c.submissions_page.new.self.conn in
+    let old = g.C.Database.state c.args.self.now.conn in
+    let new = g.C.Database.state c.submissions_page.new.self.conn in
     record {
       rests = reads_then _ _ _ before.0 one.rests;
       told = λ clean v rest.

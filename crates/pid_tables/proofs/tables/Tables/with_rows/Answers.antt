@@ -1,5 +1,4 @@
 use Rattle.std.proofs.Common.{◌∙◌}
-use Rattle.sqlite.specs.Held.{state}
 use Rattle.pid_tables.proofs.OfCheck.Asking.{nothing_read}
 use Rattle.pid_tables.specs.Steps.Gathering.{bare}
 use Rattle.pid_tables.proofs.ThenReads.{fault_first, says_less}
@@ -26,24 +25,24 @@ returns-in_ok-named-in-Submission g c = rw c.in-Submission.is (record {
 })
 
 pub returns-in-Remarks : goal.returns-in-Remarks
-returns-in-Remarks g c = rw c.in-Remarks.is (says_less g.S.Store c.args.self.now.conn c.remark_facts.new.self.conn c.remark_facts.result c.remark_facts.ensures (λ v x says all parents. says))
+returns-in-Remarks g c = rw c.in-Remarks.is (says_less g.C.Database.state c.args.self.now.conn c.remark_facts.new.self.conn c.remark_facts.result c.remark_facts.ensures (λ v x says all parents. says))
 
 pub returns-in-Item : goal.returns-in-Item
 returns-in-Item g c = rw c.in-Item.is c.item_facts.ensures
 
 pub returns-in-Nothing : goal.returns-in-Nothing
 returns-in-Nothing g c = rw c.in-Nothing.is (record {
-  rests = nothing_read (state g.S.Store c.args.self.now.conn) c.args.self.now.settled;
+  rests = nothing_read (g.C.Database.state c.args.self.now.conn) c.args.self.now.settled;
   told = λ clean v rest all parents. c.plain_facts-in-Nothing.ensures;
 })
 
 pub returns-in_err-who-in-Rank : goal.returns-in_err-who-in-Rank
-returns-in_err-who-in-Rank g c = fault_first g.S.Store c.args.self.now.conn c.rank.new.self.conn c.in_err-who-in-Rank.field-0.0 c.from_residual.result c.from_residual.ensures.1 c.in_err-who-in-Rank.ensures
+returns-in_err-who-in-Rank g c = fault_first g.C.Database.state c.args.self.now.conn c.rank.new.self.conn c.in_err-who-in-Rank.field-0.0 c.from_residual.result c.from_residual.ensures.1 c.in_err-who-in-Rank.ensures
 
 pub returns-in_err-submissions-in-Submissions : goal.returns-in_err-submissions-in-Submissions
 returns-in_err-submissions-in-Submissions g c =
-    fault_first g.S.Store c.args.self.now.conn c.submissions.new.self.conn c.in_err-submissions-in-Submissions.field-0.0 c.from_residual-in_err-submissions-in-Submissions.result c.from_residual-in_err-submissions-in-Submissions.ensures.1 c.in_err-submissions-in-Submissions.ensures
+    fault_first g.C.Database.state c.args.self.now.conn c.submissions.new.self.conn c.in_err-submissions-in-Submissions.field-0.0 c.from_residual-in_err-submissions-in-Submissions.result c.from_residual-in_err-submissions-in-Submissions.ensures.1 c.in_err-submissions-in-Submissions.ensures
 
 pub returns-in_err-named-in-Submission : goal.returns-in_err-named-in-Submission
 returns-in_err-named-in-Submission g c =
-    fault_first g.S.Store c.args.self.now.conn c.submission_facts.new.self.conn c.in_err-named-in-Submission.field-0.0 c.from_residual-in_err-named-in-Submission.result c.from_residual-in_err-named-in-Submission.ensures.1 c.in_err-named-in-Submission.ensures
+    fault_first g.C.Database.state c.args.self.now.conn c.submission_facts.new.self.conn c.in_err-named-in-Submission.field-0.0 c.from_residual-in_err-named-in-Submission.result c.from_residual-in_err-named-in-Submission.ensures.1 c.in_err-named-in-Submission.ensures
