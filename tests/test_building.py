@@ -191,7 +191,7 @@ def test_builds(cases):
         cases.equal("three are built at the same time", sorted(noted[2:5]), wanted)
         top = [it for it in noted if it.startswith("begin top")]
         cases.equal("the last library", top, ["begin top jobs 2 statements over left right std"])
-        last = "begin program jobs 1 over aside std top"
+        last = "begin program jobs 2 over aside std top"
         cases.equal("the program comes last", noted[-2:], [last, "end program"])
         linked = os.path.join(folder, "crates", "program", "out", "program")
         cases.equal("the program is where it belongs", os.path.isfile(linked), True)

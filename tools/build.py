@@ -6,10 +6,10 @@
 Each crate is proved from nothing. Of a library, `rattle build --statements` then writes what the
 crates above it can cite, without the proofs, so that they have less to load than of a library that
 `rt lib` builds. As many crates as there are processors are built side by side; those for which the
-longest chain of crates waits begin first, and the others give way to them. A library of that chain,
+longest chain of crates waits begin first, and the others give way to them. A crate of that chain,
 or one that is built alone, has half of the processors. Each other crate has one job, since a prover
-with N jobs makes a copy of itself for each module, and a program has few functions of its own. The
-largest crate of a program of two libraries has all of them.
+with N jobs makes a copy of itself for each module. The largest crate of a program of two libraries
+has all of them.
 Rattle's own compiler makes the program; with --llvm LLVM does, which takes longer, for a program
 that is faster.
 Says on standard error how far it is, and if a crate is not proved, what `rattle` said of it.
@@ -221,7 +221,7 @@ class Build:
         if self.is_small:
             is_largest = all(self.chain(it) <= self.chain(crate) for it in others)
             return self.processors if is_largest else 1
-        if self.toolchain.is_program(crate) or others and not self.leads(crate):
+        if others and not self.leads(crate):
             return 1
         return max(1, self.processors // 2)
 

@@ -4,8 +4,8 @@ use Rattle.std.proofs.Common.{inl, inr, sym, ap, subst}
 use Rattle.std.proofs.Math.Logic.{∥∥₁_map}
 use Rattle.sqlite.proofs.Theorems.{next_run}
 use Rattle.sqlite.specs.Effect.{Database}
-use Rattle.sqlite.specs.Files.{file_state, over_files}
-use Rattle.sqlite.specs.Held.{AreDatabases, Held, state}
+use Rattle.sqlite.specs.Files.{file_state}
+use Rattle.sqlite.specs.Held.{AreDatabases, Held}
 use Rattle.sqlite.specs.Schema.{Schema}
 use Rattle.sqlite.specs.State as states
 use Rattle.sqlite.specs.Tree.{Trees}
@@ -13,7 +13,8 @@ use Rattle.sqlite_catalog.specs.Listing.{IsSound}
 use Rattle.sqlite_disk.specs.declared.Disk as disk
 use Rattle.sqlite_store.specs.FileStore.{recovers, view}
 use Rattle.sqlite_store.specs.declared.store.FileStore.{FileStore}
-use Rattle.sqlite_trees.specs.declared.store.Store.{Ghosts}
+use Rattle.pid_tables.specs.declared.database.Database.{Ghosts}
+use Rattle.pid_service.specs.declared.registry.Registry.{Registry}
 use Rattle.pid_moderation.specs.History.{Asked, History}
 use Rattle.pid_moderation.specs.Views.{Views, views_of}
 use Rattle.pid_service_laws.specs.Calls.{Call, StopsAt, session_of}
@@ -29,7 +30,7 @@ use Rattle.pid_service.specs.Sessions.{IsAfterStop, showing}
 use Rattle.pid_service.specs.Registries.{HasCleanDisk, connection}
 use Rattle.sqlite.specs.Start.{FindsIn}
 use Rattle.sqlite_wal.specs.Recovery.{Image}
-use Rattle.pid_cli.specs.Databases.{RegistryOver, database}
+use Rattle.pid_cli.specs.Files.{files_database}
 use Rattle.pid_cli_jobs.specs.Files.{Closed, IsLeftIn, IsNextRun, Stopped, Unclosed}
 
 -- trees that show the one or the other are a database
@@ -39,19 +40,19 @@ pub either_sound : (db : Trees) (first second : Views)
 either_sound db first second (inl shows) = (pid_schema, shows.sound)
 either_sound db first second (inr shows) = (pid_schema, shows.sound)
 
-module _ {S : Type 0} (store : Ghosts S) where
+module _ {C : Type 0} (database : Ghosts C) where
   -- what a stop may leave of a connection is a database
-  pub rest_sound : (conn : Held S) (v : Views) → clauses.AtRest (state store) conn v
-      → clauses.HasCleanDisk (state store) conn → AreDatabases (store.recovers conn.store)
+  pub rest_sound : (conn : C) (v : Views) → clauses.AtRest database.state conn v
+      → clauses.HasCleanDisk database.state conn → AreDatabases (database.state conn).may_leave
   rest_sound conn v rest clean db left = (pid_schema, (rest.leaves.each clean db left).sound)
 
-  pub between_sound : (conn : Held S) (v w : Views) → clauses.LeavesEither (state store) conn v w
-      → clauses.HasCleanDisk (state store) conn → AreDatabases (store.recovers conn.store)
+  pub between_sound : (conn : C) (v w : Views) → clauses.LeavesEither database.state conn v w
+      → clauses.HasCleanDisk database.state conn → AreDatabases (database.state conn).may_leave
   between_sound conn v w either clean db left = either_sound db v w (either.each clean db left)
 
   -- of a connection whose tables show a history in one schema or the other, or none
-  pub tables_sound : (conn : Held S) (h : History) → ShowsOrBlank (state store) conn h
-      → clauses.HasCleanDisk (state store) conn → AreDatabases (store.recovers conn.store)
+  pub tables_sound : (conn : C) (h : History) → ShowsOrBlank database.state conn h
+      → clauses.HasCleanDisk database.state conn → AreDatabases (database.state conn).may_leave
   tables_sound conn h (inl rest) clean db left = rest_sound conn (views_of h) rest clean db left
   tables_sound conn h (inr (inl older)) clean db left =
       let shown = older.leaves.each clean db left in (schema_of shown.0, shown.1.sound)
@@ -61,19 +62,19 @@ module _ {S : Type 0} (store : Ghosts S) where
   ]
 
   -- as a registry ends
-  pub ends_sound : (ended : RegistryOver store) (calls : List Call) (h : History)
+  pub ends_sound : (ended : Registry C database) (calls : List Call) (h : History)
       (before after : Asked → History)
-      → Shows (database store) ended h ⊎ ((c : Asked) × StopsAt c calls
-      × FailsBetween (database store) ended (before c) (after c))
-      → HasCleanDisk (database store) ended → AreDatabases (store.recovers (connection ended).store)
+      → Shows database ended h ⊎ ((c : Asked) × StopsAt c calls
+      × FailsBetween database ended (before c) (after c))
+      → HasCleanDisk database ended → AreDatabases (database.state (connection ended)).may_leave
   ends_sound ended calls h before after (inl shows) clean =
       rest_sound (connection ended) (views_of h) shows.tables clean
   ends_sound ended calls h before after (inr (c, at, fails)) clean =
       between_sound (connection ended) (views_of (before c)) (views_of (after c)) fails.leaves clean
 
-  pub session_sound : (h : History) (calls : List Call) (ended : RegistryOver store)
-      → EndsSession (showing (database store)) h calls ended → HasCleanDisk (database store) ended
-      → AreDatabases (store.recovers (connection ended).store)
+  pub session_sound : (h : History) (calls : List Call) (ended : Registry C database)
+      → EndsSession (showing database) h calls ended → HasCleanDisk database ended
+      → AreDatabases (database.state (connection ended)).may_leave
   session_sound h calls ended session clean = ends_sound ended calls (after_session h (session_of calls NoDoubt))
       (λ c. after_session h (session_of calls (InDoubt c false)))
       (λ c. after_session h (session_of calls (InDoubt c true)))
@@ -102,7 +103,7 @@ module _ {D E : Type 0} {g : disk.Ghosts D} {k : disk.Ghosts E} where
       → (IsTrue (view earlier.store).is_open → recovers earlier.store (view earlier.store).committed)
       → AreDatabases (recovers earlier.store) → IsNextRun earlier conn
       → states.HasCleanDisk (file_state conn)
-      → ∥ IsAfterStop (database over_files) (database over_files) earlier conn ∥₁
+      → ∥ IsAfterStop files_database files_database earlier conn ∥₁
   finds_left earlier conn stays sound run clean =
       let opened = run.opens.opened clean in
       ∥∥₁_map (finds earlier conn stays sound run.image run.left (run.opens.found clean))

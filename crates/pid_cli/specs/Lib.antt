@@ -1,4 +1,3 @@
-pub mod Databases
 pub mod Openings
 pub mod Exports
 pub mod Migrations

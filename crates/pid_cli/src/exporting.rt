@@ -2,7 +2,7 @@
 ghost use Rattle.std.specs.Prelude.{◌≡◌};
 ghost use Rattle.std.specs.Io.Buffered.{writer_contents};
 ghost use Rattle.pid_file.specs.Writing.{use_of};
-ghost use Rattle.pid_cli_jobs.specs.Lines.{streams};
+ghost use Rattle.pid_cli_jobs.specs.Lines.{streams_used};
 ghost use Rattle.pid_cli.specs.Exports.{ExportsThrough, PrintsAll, export_end};
 ghost use Rattle.pid_cli.specs.Openings.{WorksAt};
 
@@ -10,6 +10,7 @@ use crate::alone::Alone;
 use pid_cli_jobs::{Databases, JobEnd, Registries, report_unopened};
 use pid_ident::{Output, Plain};
 use pid_service::ExportFault;
+use pid_tables::WritableDatabase;
 use std::io::{BufWriter, Write};
 
 fn end_of_export(printed: Result<(), ExportFault>) -> JobEnd
@@ -28,10 +29,11 @@ fn print_all<D: Databases, O: Output, F: Output>(
     output: &mut O,
     faults: &mut F,
 ) -> JobEnd
-    ensures { WorksAt D.Kept.Store (D.is_at path.now) D.is_closed
-        (PrintsAll D.Kept.Store O.Output output.old output.new)
-        (streams (use_of O.Output output.old output.new)
-        (use_of F.Output faults.old faults.new)) result }
+where
+    D::Connection: WritableDatabase,
+    ensures { WorksAt D.Connection.Database (D.is_at path.now) D.is_closed
+        (PrintsAll D.Connection.Database O.Output output.old output.new)
+        (streams_used O.Output F.Output output.old output.new faults.old faults.new) result }
 {
     let mut registries = Alone;
     match registries.open(databases, path) {
@@ -52,7 +54,9 @@ pub fn export<D: Databases, O: Write + Drop, F: Output>(
     buffer: BufWriter<O>,
     faults: &mut F,
 ) -> (JobEnd, O)
-    ensures { ExportsThrough D.Kept.Store (D.is_at path.now) D.is_closed
+where
+    D::Connection: WritableDatabase,
+    ensures { ExportsThrough D.Connection.Database (D.is_at path.now) D.is_closed
         ⟦<Plain<BufWriter<O>> as Output>⟧ (use_of F.Output faults.old faults.new)
         (writer_contents O.contents buffer) (O.contents result.1) result.0 }
 {

@@ -14,20 +14,20 @@ ghost use Rattle.pid_cli.specs.Files.{
 
 use pid_ident::Output;
 use pid_service::Registry;
-use sqlite::{Alter, Connection};
+use pid_tables::{Database, WritableDatabase};
 use sqlite_disk::Disk;
 
 /// What a stop leaves of a registry, after any calls, is a database.
-pub fn calls_leave_databases<S: Alter + Drop>()
-    ensures { CallsLeaveDatabases S.Store }
+pub fn calls_leave_databases<C: WritableDatabase + Drop>()
+    ensures { CallsLeaveDatabases C.Database }
 {
-    pid_service_laws::calls_make_a_session::<Registry<Connection<S>>>(); // proof only
+    pid_service_laws::calls_make_a_session::<Registry<C>>(); // proof only
 }
 
 /// What a stop leaves of a connection whose tables show a history is a database too: after a
 /// migration, and after an opening that failed (`pid_service::histories_are_kept`).
-pub fn tables_leave_databases<S: Alter + Drop>()
-    ensures { TablesLeaveDatabases S.Store }
+pub fn tables_leave_databases<C: Database>()
+    ensures { TablesLeaveDatabases C.Database }
 {}
 
 /// The next run on the files of an earlier one finds what a stop, at any place of it, or its closing
@@ -41,8 +41,8 @@ pub fn files_show_what_was_left<D: Disk, E: Disk>()
 /// whatever openings failed since, shows the history after a prefix of the commands of each run
 /// before it, which holds every acknowledged one. What it exports and looks up is of that history's
 /// tree (`pid_service::openings_tell_prefixes`).
-pub fn runs_show_prefixes<S: Alter + Drop, T: Alter + Drop, O: Output>()
-    ensures { RunsShowPrefixes S.Store T.Store O.Output }
+pub fn runs_show_prefixes<C: Database + Drop, D: Database + Drop, O: Output>()
+    ensures { RunsShowPrefixes C.Database D.Database O.Output }
 {
-    pid_service::laws::openings_tell_prefixes::<Connection<S>, Connection<T>, O>(); // proof only
+    pid_service::laws::openings_tell_prefixes::<C, D, O>(); // proof only
 }

@@ -1,13 +1,13 @@
 //! The migration of the tables at a path.
 ghost use Rattle.std.specs.Prelude.{◌≡◌};
-ghost use Rattle.pid_file.specs.Writing.{use_of};
-ghost use Rattle.pid_cli_jobs.specs.Lines.{streams};
+ghost use Rattle.pid_cli_jobs.specs.Lines.{streams_used};
 ghost use Rattle.pid_cli.specs.Migrations.{Migrates, step_line};
 
 use crate::alone::of_tables;
 use pid_cli_jobs::{Databases, JobEnd, print_line, report_unopened};
 use pid_ident::Output;
 use pid_service::Step;
+use pid_tables::WritableDatabase;
 
 fn step_text(step: Step) -> &'static str
     ensures { result.now ≡ step_line step }
@@ -27,9 +27,10 @@ pub fn migrate<D: Databases, O: Output, F: Output>(
     output: &mut O,
     faults: &mut F,
 ) -> JobEnd
-    ensures { Migrates D.Kept.Store (D.is_at path.now) D.is_closed
-        (streams (use_of O.Output output.old output.new)
-        (use_of F.Output faults.old faults.new)) result }
+where
+    D::Connection: WritableDatabase,
+    ensures { Migrates D.Connection.Database (D.is_at path.now) D.is_closed
+        (streams_used O.Output F.Output output.old output.new faults.old faults.new) result }
 {
     let conn = match databases.open(path) {
         Ok(conn) => conn,

@@ -10,6 +10,7 @@ use pid_cli_jobs::{
 };
 use pid_file::{TextEnd, Watched, report_text_end, run_check, run_tidy};
 use pid_ident::{Output, Plain};
+use pid_tables::WritableDatabase;
 use std::io::{BufWriter, IsTerminal, Read, Write};
 
 const BUFFER: usize = 65_536;
@@ -39,7 +40,10 @@ fn run_on_machine<M: Machine, I: Read, O: Write, F: Write>(
     input: &mut I,
     output: &mut O,
     faults: &mut F,
-) -> u8 {
+) -> u8
+where
+    M::Connection: WritableDatabase,
+{
     let mut output = Watched::new(output);
     let end = run_with_journal(rt, machine, Alone, job, input, &mut output, faults);
     report_end(end, output.is_unread(), &mut Plain::new(faults))
@@ -56,6 +60,7 @@ fn run_with_journal<M: Machine, G, I: Read, O: Write, F: Write>(
     faults: &mut F,
 ) -> JobEnd
 where
+    M::Connection: WritableDatabase,
     G: Registries<M> + Registries<InMemory> + Copy,
 {
     let Some(path) = job.journal() else {
@@ -78,7 +83,10 @@ fn run_job<M: Machine, G: Registries<M> + Registries<InMemory>, I: Read, O: Writ
     input: &mut I,
     output: &mut O,
     faults: &mut F,
-) -> JobEnd {
+) -> JobEnd
+where
+    M::Connection: WritableDatabase,
+{
     let alloc = machine.alloc();
     let memory = &mut InMemory(alloc);
     let lines = &mut Plain::new(&mut *input);
@@ -105,7 +113,10 @@ fn run_export<M: Machine, O: Write, F: Output>(
     db: &str,
     output: &mut O,
     faults: &mut F,
-) -> JobEnd {
+) -> JobEnd
+where
+    M::Connection: WritableDatabase,
+{
     let is_told = rt.stderr().is_terminal() && !rt.stdout().is_terminal();
     let mut progress = Progress::new(rt, "exporting", is_told);
     let output = Seen::new(output, Counted(&mut progress));

@@ -3,7 +3,7 @@
 use Rattle.std.specs.Prelude.{◌≡◌, false, IsTrue}
 use Rattle.sqlite.specs.Closing.{IsCopied}
 use Rattle.sqlite.specs.Files.{FailsToClose, IsBlankAs, IsClosed, IsOpened, file_state}
-use Rattle.sqlite.specs.Held.{Held}
+use Rattle.sqlite.specs.Held.{Held, IsNew}
 use Rattle.sqlite.specs.Start.{FindsIn}
 use Rattle.sqlite.specs.State as states
 use Rattle.sqlite.specs.declared.error.Error.{Error}
@@ -16,10 +16,11 @@ use Rattle.sqlite_wal.specs.Files.{outcomes}
 use Rattle.sqlite_wal.specs.Reads.{AreClean}
 use Rattle.sqlite_wal.specs.Recovery.{Image}
 
--- While the disk returns what was written, the connection is open on what the files held; and a new
--- file is as `sqlite3` makes it, whose pages have no sums.
+-- The connection is new. While the disk returns what was written, it is open on what the files held;
+-- and a new file is as `sqlite3` makes it, whose pages have no sums.
 pub record OpensFiles {E : Type 0} {k : disk.Ghosts E} (image : Image) (conn : Held (FileStore E k))
     : Type 0 where
+  pub fresh : IsNew conn
   pub opened : states.HasCleanDisk (file_state conn) → IsOpened conn
   pub found : states.HasCleanDisk (file_state conn) → FindsIn image (file_state conn)
   pub plain : states.HasCleanDisk (file_state conn) → IsBlankAs false image

@@ -3,7 +3,8 @@ use Rattle.std.specs.Prelude.{◌≡◌, ℕ, Bool, true, false, List, ◌++◌,
 use Rattle.std.specs.Io.KnownBytes.{Appends, Keeps}
 use Rattle.pid_file.specs.TextEnds.{fault_line}
 use Rattle.pid_file.specs.Steps.TextEnds.{failed_line}
-use Rattle.pid_file.specs.Writing.{FailsWithin, TriesLine, WriterUse}
+use Rattle.pid_file.specs.Writing.{FailsWithin, TriesLine, WriterUse, use_of}
+use Rattle.pid_file.specs.declared.io.Output as outputs
 use Rattle.pid_file.specs.declared.text_end.TextEnd.TheVariants.{Memory}
 use Rattle.pid_lookup.specs.declared.answer.Answer.{Answer}
 use Rattle.pid_lookup.specs.declared.answer.Answer.TheVariants as answers
@@ -55,6 +56,12 @@ pub record Streams : Type 0 where
 
 abbrev pub streams : WriterUse → WriterUse → Streams
 streams output faults = record { output = output; faults = faults }
+
+-- what a call made of both, by how they were before and after it
+abbrev pub streams_used : {O F : Type 0} → outputs.Ghosts O → outputs.Ghosts F → O → O → F → F
+    → Streams
+streams_used output faults to printed errors reported =
+    streams (use_of output to printed) (use_of faults errors reported)
 
 -- nothing was printed; nothing was reported
 abbrev pub IsUnprinted : Streams → Type 0

@@ -36,7 +36,7 @@ impl<'r, P: DatabaseFiles> Host<'r, P> {
 impl<P: DatabaseFiles> Databases for Host<'_, P> {
     ghost use Rattle.pid_cli_jobs.specs.Files.{ClosesFiles, OpensFiles};
 
-    type Kept = FileStore<P::File>;
+    type Connection = Connection<FileStore<P::File>>;
 
     ghost is_at = { λ _ conn. OpensFiles P.image conn };
 

@@ -1,7 +1,6 @@
 //! The two files of a database.
 ghost use Rattle.std.specs.Prelude.{true, false, IsTrue, IfErr, IfOk};
 ghost use Rattle.sqlite_std_file.specs.File.{IsFresh as IsNewFile, file_is_usable};
-ghost use Rattle.sqlite.specs.Held.{IsNew};
 ghost use Rattle.pid_cli_jobs.specs.Files.{OpensFiles};
 ghost use Rattle.pid_cli_jobs.specs.NamedFiles.{bare_file};
 ghost use Rattle.pid_cli_jobs.specs.Sessions.{IsOfDatabase};
@@ -148,7 +147,6 @@ pub fn open_database<P: DatabaseFiles>(
     path: &str,
 ) -> Result<Connection<FileStore<P::File>>, Unopened>
     ensures opened { IfOk result (OpensFiles P.image) }
-    ensures fresh { IfOk result IsNew }
     ensures unopened { IfErr result IsOfDatabase }
 {
     let Ok(state) = RandomState::new(rt) else {

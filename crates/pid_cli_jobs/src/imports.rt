@@ -1,9 +1,8 @@
 //! The import of a pci.ids file into the registry at a path.
 ghost use Rattle.std.specs.Prelude.{◌≡◌, IfOk, IsErrOf};
-ghost use Rattle.pid_file.specs.Writing.{use_of};
 ghost use Rattle.pid_cli_args.specs.Jobs.{text_given};
 ghost use Rattle.pid_cli_jobs.specs.Jobs.{BringsFile, Imports, IsBadSender, ReportsImport};
-ghost use Rattle.pid_cli_jobs.specs.Lines.{streams};
+ghost use Rattle.pid_cli_jobs.specs.Lines.{streams_used};
 
 use crate::job_end::{JobEnd, report_memory};
 use crate::lines::print_reply;
@@ -53,8 +52,8 @@ fn report_import<O: Output, F: Output>(
     output: &mut O,
     faults: &mut F,
 ) -> JobEnd
-    ensures { ReportsImport found (streams (use_of O.Output output.old output.new)
-        (use_of F.Output faults.old faults.new)) result }
+    ensures { ReportsImport found
+        (streams_used O.Output F.Output output.old output.new faults.old faults.new) result }
 {
     match found {
         Ok(Ok(reply)) => print_reply(Ok(reply), output),
@@ -76,8 +75,7 @@ pub fn import<M: Machine, G: Registries<M>, O: Output, F: Output>(
     ensures { Imports G.Registry.RegistryCalls (G.is_opened registries.old words.now.db.now)
         (G.is_unopened registries.old words.now.db.now) G.is_closed
         (M.is_text words.now.ids.now) M.Opened.remaining words.now
-        (streams (use_of O.Output output.old output.new)
-        (use_of F.Output faults.old faults.new)) result }
+        (streams_used O.Output F.Output output.old output.new faults.old faults.new) result }
 {
     let sender = match sender_of(machine.alloc(), words) {
         Ok(sender) => sender,

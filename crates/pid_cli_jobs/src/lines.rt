@@ -8,7 +8,7 @@ ghost use Rattle.pid_cli_jobs.specs.Lines.{
   PrintsLine,
   count_line,
   reply_status,
-  streams,
+  streams_used,
 };
 
 use crate::job_end::{JobEnd, print_line, report_memory};
@@ -51,8 +51,8 @@ pub fn print_answer<O: Output, F: Output>(
     output: &mut O,
     faults: &mut F,
 ) -> JobEnd
-    ensures { PrintsAnswer found (streams (use_of O.Output output.old output.new)
-        (use_of F.Output faults.old faults.new)) result }
+    ensures { PrintsAnswer found
+        (streams_used O.Output F.Output output.old output.new faults.old faults.new) result }
 {
     match found {
         Ok(Answer::Text(text)) => {

@@ -1,6 +1,5 @@
 //! Lookups in a pci.ids file.
 ghost use Rattle.std.specs.Prelude.{◌≡◌, ◌++◌, [], IfOk, OnOk};
-ghost use Rattle.pid_file.specs.Writing.{use_of};
 ghost use Rattle.pid_lookup.specs.Fields.{bytes_of};
 ghost use Rattle.pid_cli_args.specs.Jobs.{text_given};
 ghost use Rattle.pid_cli_jobs.specs.Jobs.{
@@ -10,7 +9,7 @@ ghost use Rattle.pid_cli_jobs.specs.Jobs.{
   field_given,
   fields_given,
 };
-ghost use Rattle.pid_cli_jobs.specs.Lines.{streams};
+ghost use Rattle.pid_cli_jobs.specs.Lines.{streams_used};
 
 use crate::job_end::{JobEnd, report_memory};
 use crate::lines::{print_answer, print_reply};
@@ -81,8 +80,8 @@ fn look_up<I: Input, O: Output, F: Output>(
     output: &mut O,
     faults: &mut F,
 ) -> JobEnd
-    ensures { LooksUpText lookup.now (I.to_come input.old) (streams
-        (use_of O.Output output.old output.new) (use_of F.Output faults.old faults.new)) result }
+    ensures { LooksUpText lookup.now (I.to_come input.old)
+        (streams_used O.Output F.Output output.old output.new faults.old faults.new) result }
 {
     let (flags, args, size) = *lookup;
     match lookup_in(alloc, LARGEST, input, flags, &args, size) {
@@ -102,8 +101,7 @@ pub fn answer_lookup<M: Machine, O: Output, F: Output>(
     faults: &mut F,
 ) -> JobEnd
     ensures { LooksUpInFile (M.is_text words.now.ids.now) M.Opened.remaining (fields_given words.now)
-        (streams (use_of O.Output output.old output.new)
-        (use_of F.Output faults.old faults.new)) result }
+        (streams_used O.Output F.Output output.old output.new faults.old faults.new) result }
 {
     let alloc = machine.alloc();
     let lookup = match read_words(alloc, words) {

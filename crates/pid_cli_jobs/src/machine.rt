@@ -2,36 +2,34 @@
 use crate::unopened::Unopened;
 use pid_http_stream::listener::{Serving, StreamServer};
 use pid_ident::Output;
-use sqlite::{Alter, Connection, MemStore};
+use sqlite::{Connection, MemStore};
 use std::alloc::Global;
 use std::io::Read;
 
 /// Where databases are opened.
 pub trait Databases {
     ghost use Rattle.std.specs.Prelude.{ℕ, List, IfErr, IfOk, IfSome};
-    ghost use Rattle.sqlite.specs.Held.{Held, IsNew};
     ghost use Rattle.pid_cli_jobs.specs.Sessions.{IsOfDatabase};
 
-    /// What keeps the bytes of a database.
-    type Kept: Alter + Drop;
+    /// A connection to a database.
+    type Connection: Drop;
 
-    /// The connection was opened at this path.
-    ghost is_at: { List ℕ → Held Self.Kept → Type 0 };
+    /// The connection is new, and was opened at this path.
+    ghost is_at: { List ℕ → Self.Connection → Type 0 };
 
     /// The connection was closed.
-    ghost is_closed: { Held Self.Kept → Type 0 };
+    ghost is_closed: { Self.Connection → Type 0 };
 
     fn alloc(&self) -> Global;
 
     /// Opens the database at a path, which is created if it is not there.
-    fn open(&mut self, path: &str) -> Result<Connection<Self::Kept>, Unopened>
+    fn open(&mut self, path: &str) -> Result<Self::Connection, Unopened>
         ensures opened { IfOk result (is_at path.now) }
-        ensures fresh { IfOk result IsNew }
         ensures unopened { IfErr result IsOfDatabase };
 
     /// Takes a connection and closes it. If its log can't be copied into the file, it stays next to
     /// the file for the next opening.
-    fn close(&mut self, conn: &mut Option<Connection<Self::Kept>>)
+    fn close(&mut self, conn: &mut Option<Self::Connection>)
         ensures { IfSome conn.old is_closed };
 }
 
@@ -87,12 +85,12 @@ pub trait Machine: Databases {
 pub struct InMemory(pub Global);
 
 impl Databases for InMemory {
-    ghost use Rattle.sqlite.specs.Held.{state};
+    ghost use Rattle.sqlite.specs.Held.{IsNew, state};
     ghost use Rattle.sqlite.specs.Steps.{IsEmpty, over_memory};
 
-    type Kept = MemStore;
+    type Connection = Connection<MemStore>;
 
-    ghost is_at = { λ _ conn. IsEmpty (state over_memory conn) };
+    ghost is_at = { λ _ conn. IsNew conn × IsEmpty (state over_memory conn) };
 
     ghost is_closed = { λ _. Unit };
 

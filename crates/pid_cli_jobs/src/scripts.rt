@@ -1,8 +1,7 @@
 //! Scripts on the registry at a path.
-ghost use Rattle.pid_file.specs.Writing.{use_of};
 ghost use Rattle.pid_http_stream.specs.Listener.Streams.{use_of_reader};
 ghost use Rattle.pid_cli_jobs.specs.Jobs.{EndsScript, RunsLines};
-ghost use Rattle.pid_cli_jobs.specs.Lines.{streams};
+ghost use Rattle.pid_cli_jobs.specs.Lines.{streams_used};
 ghost use Rattle.pid_cli_jobs.specs.Sessions.{Works};
 
 use crate::job_end::JobEnd;
@@ -37,8 +36,7 @@ pub fn script<D: Databases, G: Registries<D>, I: Incoming<O>, O: Output, F: Outp
     ensures works { Works G.Registry.RegistryCalls (G.is_opened registries.old path.now)
         (G.is_unopened registries.old path.now) G.is_closed
         (RunsLines G.Registry.RegistryCalls (use_of_reader I.Incoming input.old input.new))
-        (streams (use_of O.Output output.old output.new)
-        (use_of F.Output faults.old faults.new)) result }
+        (streams_used O.Output F.Output output.old output.new faults.old faults.new) result }
     ensures reads { I.goes input.old input.new }
 {
     match registries.open(databases, path) {

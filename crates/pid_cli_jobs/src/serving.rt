@@ -2,7 +2,7 @@
 ghost use Rattle.std.specs.Prelude.{◌≡◌};
 ghost use Rattle.pid_file.specs.Writing.{use_of};
 ghost use Rattle.pid_cli_jobs.specs.Jobs.{Offers, ReportsServing, Serves, socket_line};
-ghost use Rattle.pid_cli_jobs.specs.Lines.{Reports, streams};
+ghost use Rattle.pid_cli_jobs.specs.Lines.{Reports, streams_used};
 ghost use Rattle.pid_cli_jobs.specs.Sessions.{IsPartOfSession, Works};
 
 use crate::job_end::{JobEnd, report_memory};
@@ -74,8 +74,8 @@ fn report_socket<F: Output>(faults: &mut F) -> JobEnd
 
 // Reports the number of streams that were started, and how the serving ended.
 fn report<O: Output, F: Output>(serving: Serving, output: &mut O, faults: &mut F) -> JobEnd
-    ensures { ReportsServing serving.end serving.streams (streams
-        (use_of O.Output output.old output.new) (use_of F.Output faults.old faults.new)) result }
+    ensures { ReportsServing serving.end serving.streams
+        (streams_used O.Output F.Output output.old output.new faults.old faults.new) result }
 {
     let printed = write_count("served ", u64::from(serving.streams), output);
     match (serving.end, printed) {
@@ -98,8 +98,7 @@ fn give_streams<M: Machine, T: StreamServer, O: Output, F: Output>(
     requires { M.port_of listener.now ≡ words.now.port }
     ensures goes { T.goes server.old server.new }
     ensures offers { Offers M.port_of M.is_serving T.live words.now (server.old, server.new)
-        (streams (use_of O.Output output.old output.new)
-        (use_of F.Output faults.old faults.new)) result }
+        (streams_used O.Output F.Output output.old output.new faults.old faults.new) result }
 {
     match write_count("listening on 127.0.0.1:", u64::from(words.port), output) {
         Ok(()) => {
@@ -123,8 +122,8 @@ fn serve_listener<M: Machine, G: Registries<M>, O: Output, F: Output>(
     requires { M.port_of listener.now ≡ words.now.port }
     ensures goes { IsPartOfSession G.Registry.RegistryCalls registry.old registry.new }
     ensures offers { Offers M.port_of M.is_serving G.Registry.is_live words.now
-        (registry.old, registry.new) (streams (use_of O.Output output.old output.new)
-        (use_of F.Output faults.old faults.new)) result }
+        (registry.old, registry.new)
+        (streams_used O.Output F.Output output.old output.new faults.old faults.new) result }
 {
     let alloc = machine.alloc();
     let Ok(routes) = Routes::new(alloc) else {
@@ -150,8 +149,8 @@ fn serve_registry<M: Machine, G: Registries<M>, O: Output, F: Output>(
 ) -> JobEnd
     ensures goes { IsPartOfSession G.Registry.RegistryCalls registry.old registry.new }
     ensures offers { Offers M.port_of M.is_serving G.Registry.is_live words.now
-        (registry.old, registry.new) (streams (use_of O.Output output.old output.new)
-        (use_of F.Output faults.old faults.new)) result }
+        (registry.old, registry.new)
+        (streams_used O.Output F.Output output.old output.new faults.old faults.new) result }
 {
     let Some(listener) = machine.listen(words.port) else {
         return report_socket(faults);
@@ -177,8 +176,7 @@ pub fn serve<M: Machine, G: Registries<M>, O: Output, F: Output>(
     ensures { Works G.Registry.RegistryCalls (G.is_opened registries.old words.now.db.now)
         (G.is_unopened registries.old words.now.db.now) G.is_closed
         (Serves M.port_of M.is_serving G.Registry.RegistryCalls words.now)
-        (streams (use_of O.Output output.old output.new)
-        (use_of F.Output faults.old faults.new)) result }
+        (streams_used O.Output F.Output output.old output.new faults.old faults.new) result }
 {
     match registries.open(machine, words.db) {
         Ok(mut registry) => {

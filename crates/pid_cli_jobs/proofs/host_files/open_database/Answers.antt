@@ -7,6 +7,7 @@ pub returns-in-Ok-open_files_with-clause-opened : goal.returns-in-Ok-open_files_
 returns-in-Ok-open_files_with-clause-opened g c =
     let same = c.in-Ok-open.ensures.found in
     record {
+      fresh = c.in-Ok-open_files_with.ensures.fresh;
       opened = c.in-Ok-open_files_with.ensures.opened;
       found = λ clean.
           let found = c.in-Ok-open_files_with.ensures.found clean in

@@ -10,8 +10,8 @@ returns-in_err-conn-clause-unopened g c =
 
 pub returns-in-Err-clause-unopened : goal.returns-in-Err-clause-unopened
 returns-in-Err-clause-unopened g c = Refused c.in_ok-conn.conn c.in-Err.refused
-    c.in-Err.fault c.in_ok-conn.ensures.opened c.in_ok-conn.ensures.fresh
-    (subst (λ r. IsOpening g.D.Kept.Store c.in_ok-conn.conn r) c.in-Err.is (record {
+    c.in-Err.fault c.in_ok-conn.ensures.opened
+    (subst (λ r. IsOpening g.D.Connection.Database c.in_ok-conn.conn r) c.in-Err.is (record {
       history = c.open-2.ensures.history;
       registry = c.open-2.ensures.registry;
       at_once = c.open-2.ensures.at_once;
