@@ -30,7 +30,6 @@ use Rattle.pid_service.specs.Sessions.{IsAfterStop, showing}
 use Rattle.pid_service.specs.Registries.{HasCleanDisk, connection}
 use Rattle.sqlite.specs.Start.{FindsIn}
 use Rattle.sqlite_wal.specs.Recovery.{Image}
-use Rattle.pid_cli.specs.Files.{files_database}
 use Rattle.pid_cli_jobs.specs.Files.{Closed, IsLeftIn, IsNextRun, Stopped, Unclosed}
 
 -- trees that show the one or the other are a database
@@ -79,6 +78,10 @@ module _ {C : Type 0} (database : Ghosts C) where
       (λ c. after_session h (session_of calls (InDoubt c false)))
       (λ c. after_session h (session_of calls (InDoubt c true)))
       session.ends clean
+
+-- what a connection to the two files shows
+abbrev files_database : {D : Type 0} {g : disk.Ghosts D} → Ghosts (Held (FileStore D g))
+files_database = record { state = file_state }
 
 module _ {D E : Type 0} {g : disk.Ghosts D} {k : disk.Ghosts E} where
   -- the trees that the next connection sees are ones that a stop may have left of the earlier one

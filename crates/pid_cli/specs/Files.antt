@@ -22,16 +22,13 @@ use Rattle.pid_service.specs.Opening.{OpensTo}
 use Rattle.pid_service.specs.Registries.{HasCleanDisk, connection}
 use Rattle.pid_cli_jobs.specs.Files.{IsNextRun}
 
--- what a connection to the two files shows
-abbrev pub files_database : {D : Type 0} {g : disk.Ghosts D} → Ghosts (Held (FileStore D g))
-files_database = record { state = file_state }
-
--- The connection of the next run was opened after a stop of the earlier one, on what that left.
-abbrev pub FilesShowWhatWasLeft : {D E : Type 0} → disk.Ghosts D → disk.Ghosts E → Type 0
-FilesShowWhatWasLeft {D} {E} g k = (earlier : Held (FileStore D g)) (conn : Held (FileStore E k))
-    → AreDatabases (recovers earlier.store) → IsNextRun earlier conn
-    → states.HasCleanDisk (file_state conn)
-    → ∥ IsAfterStop files_database files_database earlier conn ∥₁
+-- The connection of the next run was opened after a stop of the earlier one, on what that left: what
+-- both show to tables is what their files hold.
+abbrev pub FilesShowWhatWasLeft : {D E : Type 0} {g : disk.Ghosts D} {k : disk.Ghosts E}
+    → Ghosts (Held (FileStore D g)) → Ghosts (Held (FileStore E k)) → Type 0
+FilesShowWhatWasLeft {D} {E} {g} {k} from to = (earlier : Held (FileStore D g))
+    (conn : Held (FileStore E k)) → AreDatabases (recovers earlier.store) → IsNextRun earlier conn
+    → states.HasCleanDisk (file_state conn) → ∥ IsAfterStop from to earlier conn ∥₁
 
 -- A registry that showed a history leaves databases alone, after any calls.
 abbrev pub CallsLeaveDatabases : {C : Type 0} → Ghosts C → Type 0

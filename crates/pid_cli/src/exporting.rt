@@ -23,16 +23,14 @@ fn end_of_export(printed: Result<(), ExportFault>) -> JobEnd
     }
 }
 
-fn print_all<D: Databases, O: Output, F: Output>(
+fn print_all<D: Databases<Connection = C>, C: WritableDatabase + Drop, O: Output, F: Output>(
     databases: &mut D,
     path: &str,
     output: &mut O,
     faults: &mut F,
 ) -> JobEnd
-where
-    D::Connection: WritableDatabase,
-    ensures { WorksAt D.Connection.Database (D.is_at path.now) D.is_closed
-        (PrintsAll D.Connection.Database O.Output output.old output.new)
+    ensures { WorksAt C.Database (D.is_at path.now) D.is_closed
+        (PrintsAll C.Database O.Output output.old output.new)
         (streams_used O.Output F.Output output.old output.new faults.old faults.new) result }
 {
     let mut registries = Alone;
@@ -48,15 +46,13 @@ where
 
 /// Prints the canonical text of a registry through a buffer, and hands back the writer that this is
 /// over: if the end is `Exited(0)`, all of the text went there.
-pub fn export<D: Databases, O: Write + Drop, F: Output>(
+pub fn export<D: Databases<Connection = C>, C: WritableDatabase + Drop, O: Write + Drop, F: Output>(
     databases: &mut D,
     path: &str,
     buffer: BufWriter<O>,
     faults: &mut F,
 ) -> (JobEnd, O)
-where
-    D::Connection: WritableDatabase,
-    ensures { ExportsThrough D.Connection.Database (D.is_at path.now) D.is_closed
+    ensures { ExportsThrough C.Database (D.is_at path.now) D.is_closed
         ⟦<Plain<BufWriter<O>> as Output>⟧ (use_of F.Output faults.old faults.new)
         (writer_contents O.contents buffer) (O.contents result.1) result.0 }
 {

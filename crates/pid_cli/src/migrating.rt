@@ -21,15 +21,13 @@ fn step_text(step: Step) -> &'static str
 
 /// Moves the tables at a path to the newest schema, or creates them; opens no registry. Prints what
 /// was done, or reports why not.
-pub fn migrate<D: Databases, O: Output, F: Output>(
+pub fn migrate<D: Databases<Connection = C>, C: WritableDatabase + Drop, O: Output, F: Output>(
     databases: &mut D,
     path: &str,
     output: &mut O,
     faults: &mut F,
 ) -> JobEnd
-where
-    D::Connection: WritableDatabase,
-    ensures { Migrates D.Connection.Database (D.is_at path.now) D.is_closed
+    ensures { Migrates C.Database (D.is_at path.now) D.is_closed
         (streams_used O.Output F.Output output.old output.new faults.old faults.new) result }
 {
     let conn = match databases.open(path) {

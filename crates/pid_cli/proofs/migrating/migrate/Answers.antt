@@ -5,7 +5,7 @@ use Rattle.pid_cli.proofs.migrating.migrate.Goals as goal
 pub returns-in-Ok-migrate : goal.returns-in-Ok-migrate
 returns-in-Ok-migrate g c = Migrated c.in-Ok.conn c.in-Ok-migrate.conn c.in-Ok-migrate.step
     c.in-Ok.ensures.opened
-    (subst (λ r. IsMigration g.D.Connection.Database c.in-Ok.conn r) c.in-Ok-migrate.is (record {
+    (subst (λ r. IsMigration g.C.Database c.in-Ok.conn r) c.in-Ok-migrate.is (record {
       history = c.migrate.ensures.history;
       at_once = c.migrate.ensures.at_once;
       shown = c.migrate.ensures.shown;
@@ -20,7 +20,7 @@ returns-in-Err g c =
 pub returns-in-Err-migrate : goal.returns-in-Err-migrate
 returns-in-Err-migrate g c = Unmoved c.in-Ok.conn c.in-Err-migrate.refused c.in-Err-migrate.fault
     c.in-Ok.ensures.opened
-    (subst (λ r. IsMigration g.D.Connection.Database c.in-Ok.conn r) c.in-Err-migrate.is (record {
+    (subst (λ r. IsMigration g.C.Database c.in-Ok.conn r) c.in-Err-migrate.is (record {
       history = c.migrate.ensures.history;
       at_once = c.migrate.ensures.at_once;
       shown = c.migrate.ensures.shown;
